@@ -1,0 +1,17 @@
+//! Values of columns, rows and names, with their order.
+#![tactic(auto)]
+
+mod name;
+mod value;
+
+pub use name::Name;
+pub use value::{Day, Dec, Moment, Stamp, Value};
+
+use dm_list::Sequence;
+
+/// A row: its values in the order of the columns.
+pub type Row = Sequence<Value>;
+/// Rows in some order.
+pub type Rows = Sequence<Row>;
+/// Names in some order.
+pub type Names = Sequence<Name>;
