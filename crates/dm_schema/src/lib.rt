@@ -1,13 +1,26 @@
-// A library with one function.
+//! Columns, schemas, their changes, and what values fit a column.
 #![tactic(auto)]
 
-ghost use Rattle.std.specs.Prelude.{◌≡◌};
-ghost use Rattle.dm_schema.specs.Echo.{echo_of};
+mod change;
+mod column;
+mod fault;
+mod fitting;
+mod row_change;
+mod schema;
+mod table_name;
 
-// The `ensures` clause is the contract: what `echo` returns is `echo_of` of its argument, a definition
-// in `specs/Echo.antt`, which a caller's clause can cite too.
-pub fn echo(x: usize) -> usize
-    ensures { result ≡ echo_of x }
-{
-    x
-}
+pub use change::{Change, Spot};
+pub use column::{Column, DefaultRule, Kind, UniqueKey};
+pub use fault::{EffectFault, SchemaFault};
+pub use fitting::fits;
+pub use row_change::{KeyValue, RowChange};
+pub use schema::Schema;
+pub use table_name::TableName;
+
+pub use dm_list::{Bytes, Copied, Items, Places, Sequence};
+pub use dm_value::{Day, Dec, Moment, Name, Names, Row, Rows, Stamp, Value};
+
+/// The changes of one statement, from left to right.
+pub type Changes = Sequence<Change>;
+/// The values of a row under its keys.
+pub type Keys = Sequence<KeyValue>;
