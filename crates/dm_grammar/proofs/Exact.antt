@@ -1,13 +1,13 @@
-use Rattle.std.proofs.Common.{◌≡◌, ℕ, ◌+◌, suc, zero, Bool, true, false, not, ◌&&◌, ◌||◌, ◌==◌, List, [], ◌∷◌, ◌++◌, map, length, Option, Some, None, Result, Ok, Err, IfOk, is_some, ◌⊎◌, inl, inr, refl, sym, ◌∙◌, ap, subst, if◌then◌else◌, ◌<◌, arith}
+use Rattle.std.proofs.Common.{◌≡◌, ℕ, ◌+◌, suc, zero, Bool, true, false, not, ◌&&◌, ◌||◌, ◌==◌, List, [], ◌∷◌, ◌++◌, map, length, Option, Some, None, All, is_some, ◌⊎◌, inl, inr, refl, sym, ◌∙◌, ap, subst, if◌then◌else◌, ◌<◌, arith}
 use Rattle.std.proofs.lemmas.List.{append-nil}
+use Rattle.std.proofs.lemmas.List.Elements.{recursion_from_All}
+use Rattle.std.specs.List.{AllByRecursion}
 use Rattle.std.proofs.lemmas.Bool.{or_cases, and_parts, and_from, or_left, or_right, true≢false, false≢true, eqb-true, eqb-false, cases_lt}
-use Rattle.dm_grammar.specs.Grammar.{Grammar, Empty, Word, Skip, Seq, Or, Many, Membership, Letter, skipped, unsupported, open_after, Closes, Repeats, Spells, kind_count, AreKinds}
+use Rattle.dm_grammar.specs.Grammar.{Grammar, Empty, Word, Skip, Seq, Or, Many, Membership, Letter, skipped, unsupported, open_after, Closes, Repeats, Spells, kind_count}
 use Rattle.dm_grammar.specs.Determinism.{is_nullable, Next, with_rest, or_else, skip_to, after, sequence, first, follow_before, any_below, disjoint_below, is_ll1, is_productive, stays_productive, no_kind, is_ready}
 use Rattle.dm_grammar.specs.Sentence.{kinds_of, roles_of, AllSupported, IsSentence, BeginsSentence, IsViablePrefix, ShowsUnsupported, GoesNowhere, MeetsUnsupported, IsFault, IsReading}
 use Rattle.dm_grammar.specs.Reading.{Outcome, later, with_role, read_next, read_from}
 use Rattle.dm_grammar.specs.declared.reader.Fault.{Fault}
-use Rattle.dm_grammar.specs.declared.reader.Reading.{Reading}
-use Rattle.std.specs.declared.alloc.AllocError.{AllocError}
 use Rattle.dm_grammar.specs.declared.reader.Fault.TheVariants.{Syntax, Unsupported}
 use Rattle.dm_grammar.proofs.Nullable.{spells_nullable, nullable_from_spells}
 use Rattle.dm_grammar.proofs.Derivative.{SoundAt, CompleteAt, KeepsAt, IsLl1, after_sound, after_complete, after_keeps}
@@ -16,6 +16,9 @@ use Rattle.dm_grammar.proofs.Tokens.{sentence_further, sentence_back, beginning_
 use Rattle.dm_grammar.proofs.Tests.{IsLl1-is_ll1}
 
 -- What `read_from` gives is a reading; and a sentence has no other.
+
+abbrev pub IsKind : ℕ → Type 0
+IsKind kind = kind < kind_count
 
 abbrev pub Reads : Membership → Grammar → List ℕ → Outcome → Type 0
 Reads has g kinds outcome = IsReading has g kinds outcome.0 outcome.1
@@ -46,7 +49,7 @@ reads_rest : (has : Membership) (follow : ℕ → Bool) (kinds : List ℕ) (read
 reads_rest has follow kinds read None keeps rest h = tt
 reads_rest has follow kinds read (Some next) keeps rest h = h (sequence next.1) keeps rest.0 rest.1
 
-reads : (has : Membership) (follow : ℕ → Bool) (kinds : List ℕ) (g : Grammar) → AreKinds kinds → IsLl1 has g follow → is_productive has g ≡ true → stays_productive has g ≡ true → Reads has g kinds (read_from has kinds g)
+reads : (has : Membership) (follow : ℕ → Bool) (kinds : List ℕ) (g : Grammar) → AllByRecursion IsKind kinds → IsLl1 has g follow → is_productive has g ≡ true → stays_productive has g ≡ true → Reads has g kinds (read_from has kinds g)
 unfolding read_from
 reads has follow [] g small ll1 productive stays = at_end (is_nullable g) refl
   where
@@ -81,7 +84,7 @@ sentences_rest : (has : Membership) (follow : ℕ → Bool) (kinds : List ℕ) (
 sentences_rest has follow kinds read None keeps h = tt
 sentences_rest has follow kinds read (Some next) keeps h = h (sequence next.1) keeps
 
-sentence_reads : (has : Membership) (follow : ℕ → Bool) (kinds : List ℕ) (g : Grammar) → AreKinds kinds → IsLl1 has g follow → (roles : List ℕ) → IsSentence has g kinds roles → read_from has kinds g ≡ (roles, None)
+sentence_reads : (has : Membership) (follow : ℕ → Bool) (kinds : List ℕ) (g : Grammar) → AllByRecursion IsKind kinds → IsLl1 has g follow → (roles : List ℕ) → IsSentence has g kinds roles → read_from has kinds g ≡ (roles, None)
 unfolding read_from
 sentence_reads has follow [] g small ll1 roles ([], e, q, supported, s) =
     ap (λ (b : Bool). let outcome : Outcome = if b then ([], None) else ([], Some (Syntax 0)) in outcome) (nullable_from_spells has g [] refl s) ∙ ap (λ (z : List ℕ). let outcome : Outcome = (z, None) in outcome) q
@@ -91,30 +94,16 @@ sentence_reads has follow (kind ∷ kinds) g small ll1 roles s =
       (sentences_rest has follow kinds (read_from has kinds) (after has g kind) (after_keeps has g follow kind ll1) (λ h l rs r. sentence_reads has follow kinds h small.1 l rs r)) s
 
 -- For a grammar that is ready, what reading gives is a reading.
-pub ready_reads : (has : Membership) (g : Grammar) (kinds : List ℕ) → AreKinds kinds → is_ready has g ≡ true → Reads has g kinds (read_from has kinds g)
+pub ready_reads : (has : Membership) (g : Grammar) (kinds : List ℕ) → All IsKind kinds → is_ready has g ≡ true → Reads has g kinds (read_from has kinds g)
 unfolding is_ready
 ready_reads has g kinds small e =
     let parts = and_parts (is_ll1 has g no_kind) (is_productive has g && stays_productive has g) e in
     let productive = and_parts (is_productive has g) (stays_productive has g) parts.1 in
-    reads has no_kind kinds g small (IsLl1-is_ll1 has g no_kind parts.0) productive.0 productive.1
+    reads has no_kind kinds g (recursion_from_All IsKind kinds small) (IsLl1-is_ll1 has g no_kind parts.0) productive.0 productive.1
 
 -- For a grammar that is ready, a sentence is read with its roles, so it has no others.
-pub ready_sentence : (has : Membership) (g : Grammar) (kinds roles : List ℕ) → AreKinds kinds → is_ready has g ≡ true → IsSentence has g kinds roles → read_from has kinds g ≡ (roles, None)
+pub ready_sentence : (has : Membership) (g : Grammar) (kinds roles : List ℕ) → All IsKind kinds → is_ready has g ≡ true → IsSentence has g kinds roles → read_from has kinds g ≡ (roles, None)
 unfolding is_ready
 ready_sentence has g kinds roles small e s =
     let parts = and_parts (is_ll1 has g no_kind) (is_productive has g && stays_productive has g) e in
-    sentence_reads has no_kind kinds g small (IsLl1-is_ll1 has g no_kind parts.0) roles s
-
--- what a function answered that gives what reading gives
-abbrev pub GivesReading : Membership → Grammar → List ℕ → Result Reading AllocError → Type 0
-GivesReading has g kinds result = IfOk result (λ reading. (reading.roles.items, reading.fault) ≡ read_from has kinds g)
-
-pub answers_reading : (has : Membership) (g : Grammar) (kinds : List ℕ) (result : Result Reading AllocError) → AreKinds kinds → is_ready has g ≡ true → GivesReading has g kinds result → IfOk result (λ reading. IsReading has g kinds reading.roles.items reading.fault)
-answers_reading has g kinds (Ok reading) small e h = subst (λ (z : Outcome). Reads has g kinds z) (sym h) (ready_reads has g kinds small e)
-answers_reading has g kinds (Err error) small e h = tt
-
-pub answers_sentence : (has : Membership) (g : Grammar) (kinds roles : List ℕ) (result : Result Reading AllocError) → AreKinds kinds → is_ready has g ≡ true → GivesReading has g kinds result → IsSentence has g kinds roles → IfOk result (λ reading. (reading.roles.items ≡ roles) × (reading.fault ≡ None))
-answers_sentence has g kinds roles (Ok reading) small e h s =
-    let same : ◌≡◌ {A = Outcome} (reading.roles.items, reading.fault) (roles, None) = h ∙ ready_sentence has g kinds roles small e s in
-    (ap (λ (z : Outcome). z.0) same, ap (λ (z : Outcome). z.1) same)
-answers_sentence has g kinds roles (Err error) small e h s = tt
+    sentence_reads has no_kind kinds g (recursion_from_All IsKind kinds small) (IsLl1-is_ll1 has g no_kind parts.0) roles s

@@ -1,5 +1,5 @@
-use Rattle.std.proofs.Common.{◌≡◌, ℕ, Bool, true, false, ◌&&◌, List, [], ◌∷◌, ◌++◌, Option, Some, None, refl, sym, ◌∙◌, ap, subst, if◌then◌else◌}
-use Rattle.std.proofs.lemmas.List.{append_assoc}
+use Rattle.std.proofs.Common.{◌≡◌, ℕ, Bool, true, false, ◌&&◌, is_some, ◌⊎◌, inl, inr, List, [], ◌∷◌, ◌++◌, Option, Some, None, refl, sym, ◌∙◌, ap, subst, if◌then◌else◌}
+use Rattle.std.proofs.lemmas.Bool.{true≢false, false≢true}
 use Rattle.dm_grammar.specs.Grammar.{Grammar, Membership}
 use Rattle.dm_grammar.specs.Determinism.{is_nullable, Next, with_rest, or_else, after, sequence}
 use Rattle.dm_grammar.specs.Meaning.{rest_of, rests_of, Advances, Steps}
@@ -10,12 +10,6 @@ use Rattle.dm_grammar.specs.declared.stack.Pending.{Pending}
 pub rests_of-push : (stack : List Pending) (top : Pending) → rests_of (stack ++ top ∷ []) ≡ rests_of stack ++ rest_of top ∷ []
 rests_of-push [] top = refl
 rests_of-push (part ∷ stack) top = ap (λ (z : List Grammar). rest_of part ∷ z) (rests_of-push stack top)
-
--- the rest was pushed, and what stands before it took the token
-pub Advances-with_rest : (taken : Option ℕ) (role : ℕ) (rest : Grammar) (next other : Next) (old pushed new : List Grammar) → pushed ≡ old ++ rest ∷ [] → taken ≡ Some role → Advances taken next pushed new → Advances (Some role) (or_else (with_rest rest next) other) old new
-Advances-with_rest taken role rest None other old pushed new e q h = absurd cc
-Advances-with_rest taken role rest (Some next) other old pushed new e q h =
-    (sym q ∙ h.0, h.1 ∙ ap (λ (z : List Grammar). z ++ next.1) e ∙ append_assoc old (rest ∷ []) next.1)
 
 -- The top of the stack is asked first; where it may be empty, what lies below it is asked then.
 pub asked : Next → List Grammar → Bool → Next → Next
@@ -59,22 +53,17 @@ pub after-pop : (has : Membership) (old below : List Pending) (top : Pending) (k
 after-pop has old below top kind all e q =
     sym q ∙ ap (λ (z : List Pending). after has (sequence (rests_of z)) kind) e ∙ ap (λ (z : List Grammar). after has (sequence z) kind) (rests_of-push below top) ∙ after-push has (rests_of below) (rest_of top) kind
 
--- the top took the token
-pub Steps-taken : (taken : Option ℕ) (role : ℕ) (next all other : Next) (below new : List Grammar) (nullable : Bool) → all ≡ asked next below nullable other → taken ≡ Some role → Advances taken next below new → Steps (Some role) all new
+-- the top took the token, or has to take one
+pub Steps-asked : (taken : Option ℕ) (next all other : Next) (below new : List Grammar) (nullable : Bool) → all ≡ asked next below nullable other → (is_some taken ≡ true) ⊎ (nullable ≡ false) → Advances taken next below new → Steps taken all new
 unfolding asked
-Steps-taken taken role None all other below new nullable e q h = absurd cc
-Steps-taken taken role (Some next) all other below new nullable e q h = subst (λ (z : Next). Steps (Some role) z new) (sym e) (sym q ∙ h.0, h.1)
-
--- the top did not take it, and has to take one
-pub Steps-refused : (taken : Option ℕ) (next all other : Next) (below left new : List Grammar) (nullable : Bool) → all ≡ asked next below nullable other → taken ≡ None → nullable ≡ false → Advances taken next below left → Steps None all new
-unfolding asked
-Steps-refused taken None all other below left new false e q p h = subst (λ (z : Next). Steps None z new) (sym e) refl
-Steps-refused taken None all other below left new true e q p h = absurd cc
-Steps-refused taken (Some next) all other below left new nullable e q p h = absurd cc
+Steps-asked taken None all other below new nullable e (inl p) h = absurd (false≢true (subst (λ (z : Option ℕ). is_some z ≡ true) h.0 p))
+Steps-asked taken None all other below new true e (inr p) h = absurd (true≢false p)
+Steps-asked taken None all other below new false e (inr p) h = subst (λ (z : Next). Steps taken z new) (sym e) h.0
+Steps-asked taken (Some next) all other below new nullable e p h = subst (λ (z : Next). Steps taken z new) (sym e) h
 
 -- the top did not take it, and need not take one
-pub after-passed : (has : Membership) (kind : ℕ) (taken : Option ℕ) (next all : Next) (below new : List Grammar) (nullable : Bool) → all ≡ asked next below nullable (after has (sequence below) kind) → taken ≡ None → nullable ≡ true → Advances taken next below new → after has (sequence new) kind ≡ all
+pub after-passed : (has : Membership) (kind : ℕ) (taken : Option ℕ) (next all : Next) (below new : List Grammar) (nullable : Bool) → all ≡ asked next below nullable (after has (sequence below) kind) → is_some taken ≡ false → nullable ≡ true → Advances taken next below new → after has (sequence new) kind ≡ all
 unfolding asked
-after-passed has kind taken None all below new true e q p h = ap (λ (z : List Grammar). after has (sequence z) kind) h.1 ∙ sym e
-after-passed has kind taken None all below new false e q p h = absurd cc
-after-passed has kind taken (Some next) all below new nullable e q p h = absurd cc
+after-passed has kind taken None all below new true e p q h = ap (λ (z : List Grammar). after has (sequence z) kind) h.1 ∙ sym e
+after-passed has kind taken None all below new false e p q h = absurd (false≢true q)
+after-passed has kind taken (Some next) all below new nullable e p q h = absurd (true≢false (subst (λ (z : Option ℕ). is_some z ≡ false) h.0 p))

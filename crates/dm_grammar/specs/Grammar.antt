@@ -38,10 +38,6 @@ skipped = 1
 abbrev pub kind_count : ℕ
 kind_count = 128
 
-abbrev pub AreKinds : List ℕ → Type 0
-AreKinds [] = Unit {0}
-AreKinds (kind ∷ kinds) = (kind < kind_count) × AreKinds kinds
-
 -- how many brackets are open behind a token of a skipped run; `None` where the token ends the run
 abbrev pub open_after : ℕ → ℕ → Option ℕ
 open_after zero kind = if kind == opening_kind then Some 1 else if kind == closing_kind then None else if kind == comma_kind then None else Some 0

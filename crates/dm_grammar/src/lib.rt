@@ -10,4 +10,4 @@ mod rule;
 mod stack;
 
 pub use reader::{Fault, Reading, read};
-pub use rule::{Class, Classes, Kind, Role, Rule, SKIPPED, UNSUPPORTED};
+pub use rule::{Class, Classes, KIND_LIMIT, Kind, Role, Rule, SKIPPED, UNSUPPORTED};

@@ -1,11 +1,10 @@
-ghost use Rattle.std.specs.Prelude.{◌≡◌, ℕ, List, true, IfOk};
-ghost use Rattle.dm_grammar.specs.Grammar.{AreKinds};
+ghost use Rattle.std.specs.Prelude.{◌≡◌, ◌<◌, ℕ, List, true, All, IfOk};
 ghost use Rattle.dm_grammar.specs.Determinism.{is_ready};
 ghost use Rattle.dm_grammar.specs.Sentence.{IsSentence, IsReading};
 ghost use Rattle.dm_grammar.specs.Reading.{read_from};
 ghost use Rattle.dm_grammar.specs.Meaning.{meaning};
 
-use crate::rule::{Classes, Kind, Role, Rule, UNSUPPORTED};
+use crate::rule::{Classes, KIND_LIMIT, Kind, Role, Rule, UNSUPPORTED};
 use crate::stack::{Pending, may_end, step};
 use std::alloc::{AllocError, Global};
 
@@ -34,7 +33,7 @@ pub fn read<'a, C: Classes>(
     grammar: &'a Rule<'a>,
     kinds: &[Kind],
 ) -> Result<Reading, AllocError>
-    requires kinds { AreKinds kinds.now }
+    requires kinds { All (λ kind. kind < KIND_LIMIT) kinds.now }
     requires ready { is_ready C.has (meaning grammar.now) ≡ true }
 
     // What is read is a sentence, or begins one as far as the first fault.

@@ -2,7 +2,7 @@ ghost use Rattle.std.specs.Prelude.{◌≡◌, ℕ, Bool};
 ghost use Rattle.dm_grammar.specs.Determinism.{is_nullable};
 ghost use Rattle.dm_grammar.specs.Meaning.{meaning};
 
-/// What a grammar sees of a token, the terminal symbol: a number below 128. 1, 2 and 3 are a bracket that opens, one
+/// What a grammar sees of a token, the terminal symbol: a number below [`KIND_LIMIT`]. 1, 2 and 3 are a bracket that opens, one
 /// that closes, and a comma.
 pub type Kind = u8;
 /// A set of kinds, by number. [`Classes`] says which kinds are in it.
@@ -10,6 +10,8 @@ pub type Class = u8;
 /// Which word of the grammar took a token, by number.
 pub type Role = u8;
 
+/// Each kind is below it.
+pub const KIND_LIMIT: Kind = 128;
 /// The role of a word that the grammar knows and that is not supported: reading stops there.
 pub const UNSUPPORTED: Role = 0;
 /// The role of each token that [`Rule::Skip`] takes.

@@ -1,6 +1,6 @@
 ghost use Rattle.std.specs.Prelude.{◌≡◌, ◌++◌, ◌∷◌, [], List, IfOk};
 ghost use Rattle.dm_grammar.specs.Grammar.{Grammar, open_after};
-ghost use Rattle.dm_grammar.specs.Determinism.{is_nullable, after, sequence, skip_to};
+ghost use Rattle.dm_grammar.specs.Determinism.{is_nullable, after, sequence, skip_to, with_rest};
 ghost use Rattle.dm_grammar.specs.Meaning.{meaning, more_items, rest_of, rests_of, Advances, Steps};
 
 use crate::rule::{Class, Classes, Kind, Role, Rule, SKIPPED};
@@ -55,13 +55,9 @@ pub fn step<'a, C: Classes>(
     ensures { IfOk result (λ role. Steps role (after C.has (sequence (rests_of stack.old.items)) kind) (rests_of stack.new.items)) }
 {
     while let Some(top) = stack.pop() {
-        match advance_pending(classes, &top, kind, stack)? {
-            Some(role) => return Ok(Some(role)),
-            None => {
-                if !top.is_nullable() {
-                    return Ok(None);
-                }
-            }
+        let taken = advance_pending(classes, &top, kind, stack)?;
+        if taken.is_some() || !top.is_nullable() {
+            return Ok(taken);
         }
     }
     Ok(None)
@@ -88,6 +84,7 @@ fn advance_pending<'a, C: Classes>(
 
 /// Takes a token at the front of a rule, and puts on the stack what is to come behind it.
 /// Where the rule does not begin with the token, the stack stays.
+#[cycle(advance)]
 fn advance<'a, C: Classes>(
     classes: &C,
     rule: &'a Rule<'a>,
@@ -103,44 +100,43 @@ fn advance<'a, C: Classes>(
         }
         Rule::Skip => skip(0, kind, stack),
         Rule::Seq(first, second) => {
-            stack.push(Pending::Rule(second))?;
-            if let Some(role) = advance(classes, first, kind, stack)? {
-                return Ok(Some(role));
+            match advance_before(classes, first, Pending::Rule(second), kind, stack)? {
+                None if first.is_nullable() => advance(classes, second, kind, stack),
+                taken => Ok(taken),
             }
-            remove_last(stack);
-            if first.is_nullable() { advance(classes, second, kind, stack) } else { Ok(None) }
         }
-        Rule::Or(one, other) => {
-            if let Some(role) = advance(classes, one, kind, stack)? {
-                return Ok(Some(role));
+        Rule::Or(one, other) => match advance(classes, one, kind, stack)? {
+            None => advance(classes, other, kind, stack),
+            taken => Ok(taken),
+        },
+        Rule::Many(repeated) => advance_before(classes, repeated, Pending::Rule(rule), kind, stack),
+        Rule::List { item, separator, role } => {
+            let more = Pending::Items { item: *item, separator: *separator, role: *role };
+            match advance_before(classes, item, more, kind, stack)? {
+                None if item.is_nullable() => advance_items(classes, item, *separator, *role, kind, stack),
+                taken => Ok(taken),
             }
-            advance(classes, other, kind, stack)
-        }
-        Rule::Many(repeated) => {
-            stack.push(Pending::Rule(rule))?;
-            if let Some(role) = advance(classes, repeated, kind, stack)? {
-                return Ok(Some(role));
-            }
-            remove_last(stack);
-            Ok(None)
-        }
-        Rule::List {
-            item,
-            separator,
-            role,
-        } => {
-            stack.push(Pending::Items {
-                item: *item,
-                separator: *separator,
-                role: *role,
-            })?;
-            if let Some(role) = advance(classes, item, kind, stack)? {
-                return Ok(Some(role));
-            }
-            remove_last(stack);
-            if item.is_nullable() { advance_items(classes, item, *separator, *role, kind, stack) } else { Ok(None) }
         }
     }
+}
+
+/// Takes a token at the front of a rule, behind which the rest is to come.
+#[cycle(advance)]
+fn advance_before<'a, C: Classes>(
+    classes: &C,
+    rule: &'a Rule<'a>,
+    rest: Pending<'a>,
+    kind: Kind,
+    stack: &mut Vec<Pending<'a>>,
+) -> Result<Option<Role>, AllocError>
+    ensures { IfOk result (λ role. Advances role (with_rest (rest_of rest.entry) (after C.has (meaning rule.now) kind)) (rests_of stack.old.items) (rests_of stack.new.items)) }
+{
+    stack.push(rest)?;
+    let taken = advance(classes, rule, kind, stack)?;
+    if taken.is_none() {
+        remove_last(stack);
+    }
+    Ok(taken)
 }
 
 /// Takes a separator of a list, behind which an item and more items are to come.

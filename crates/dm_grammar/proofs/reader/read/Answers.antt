@@ -1,9 +1,18 @@
+use Rattle.std.proofs.Common.{◌≡◌, sym, ◌∙◌, ap, subst, None}
+use Rattle.std.proofs.lemmas.Result.{IfOk-weaker}
 use Rattle.dm_grammar.specs.Meaning.{meaning}
-use Rattle.dm_grammar.proofs.Exact.{answers_reading, answers_sentence}
+use Rattle.dm_grammar.specs.Reading.{Outcome}
+use Rattle.dm_grammar.proofs.Exact.{Reads, ready_reads, ready_sentence}
 use Rattle.dm_grammar.proofs.reader.read.Goals as goal
 
 pub returns-clause-exact : goal.returns-clause-exact
-returns-clause-exact g c = answers_reading g.C.Classes.has (meaning c.args.grammar.now) c.args.kinds.now c.run.result c.requires.kinds c.requires.ready c.run.ensures
+returns-clause-exact g c =
+    let grammar = meaning c.args.grammar.now in
+    IfOk-weaker c.run.result _ _
+      (λ reading h. subst (λ (z : Outcome). Reads g.C.Classes.has grammar c.args.kinds.now z) (sym h) (ready_reads g.C.Classes.has grammar c.args.kinds.now c.requires.kinds c.requires.ready))
+      c.run.ensures
 
 pub returns-clause-each : goal.returns-clause-each
-returns-clause-each g c = λ roles s. answers_sentence g.C.Classes.has (meaning c.args.grammar.now) c.args.kinds.now roles c.run.result c.requires.kinds c.requires.ready c.run.ensures s
+returns-clause-each g c = λ roles sentence.
+    let read = ready_sentence g.C.Classes.has (meaning c.args.grammar.now) c.args.kinds.now roles c.requires.kinds c.requires.ready sentence in
+    IfOk-weaker c.run.result _ _ (λ reading h. (ap (λ (z : Outcome). z.0) (h ∙ read), ap (λ (z : Outcome). z.1) (h ∙ read))) c.run.ensures
