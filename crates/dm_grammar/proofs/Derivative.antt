@@ -131,8 +131,8 @@ IsLl1-first_disjoint has (Skip (suc depth)) follow d e = absurd (false≢true e)
 IsLl1-first_disjoint has (Seq a b) follow (da, db) e = λ kind low p q.
     let ab = and_parts (is_nullable a) (is_nullable b) e in
     calm_seq has a b kind (after has a kind) (after has b kind) (is_nullable a) p
-        (λ h. IsLl1-first_disjoint has a (follow_before has b follow) da ab.0 kind low h (or_right (first has b kind) (is_nullable b && follow kind) (and_from (is_nullable b) (follow kind) ab.1 q)))
-        (λ h. IsLl1-first_disjoint has b follow db ab.1 kind low h q)
+    (λ h. IsLl1-first_disjoint has a (follow_before has b follow) da ab.0 kind low h (or_right (first has b kind) (is_nullable b && follow kind) (and_from (is_nullable b) (follow kind) ab.1 q)))
+    (λ h. IsLl1-first_disjoint has b follow db ab.1 kind low h q)
   where
     calm_seq : (has : Membership) (a b : Grammar) (kind : ℕ) (next_a next_b : Next) (nullable : Bool) → is_some (or_else (with_rest b next_a) (if nullable then next_b else None)) ≡ true → (is_some next_a ≡ true → ⊥) → (is_some next_b ≡ true → ⊥) → ⊥
     calm_seq has a b kind (Some next) next_b nullable p x y = x refl
@@ -147,8 +147,8 @@ after_complete has (Word class role) follow kind low d = word_complete has class
 after_complete has (Skip depth) follow kind low d = skip_complete has depth kind (open_after depth kind) refl
 after_complete has (Seq a b) follow kind low (da, db) =
     seq_complete has a b kind (after has a kind) (after has b kind) (is_nullable a) (nullable_from_spells has a)
-        (λ e p q. IsLl1-first_disjoint has a (follow_before has b follow) da e kind low p (or_left (first has b kind) (is_nullable b && follow kind) q))
-        (after_complete has a (follow_before has b follow) kind low da) (after_complete has b follow kind low db)
+    (λ e p q. IsLl1-first_disjoint has a (follow_before has b follow) da e kind low p (or_left (first has b kind) (is_nullable b && follow kind) q))
+    (after_complete has a (follow_before has b follow) kind low da) (after_complete has b follow kind low db)
 after_complete has (Or a b) follow kind low (disjoint, d, da, db) = or_complete has a b kind (after has a kind) (after has b kind) (disjoint kind low) (after_complete has a follow kind low da) (after_complete has b follow kind low db)
 after_complete has (Many a) follow kind low (d, da) = many_complete has a kind (after has a kind) (after_complete has a (follow_before has (Many a) follow) kind low da)
 

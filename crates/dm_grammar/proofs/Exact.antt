@@ -13,7 +13,7 @@ use Rattle.dm_grammar.proofs.Nullable.{spells_nullable, nullable_from_spells}
 use Rattle.dm_grammar.proofs.Derivative.{SoundAt, CompleteAt, KeepsAt, IsLl1, after_sound, after_complete, after_keeps}
 use Rattle.dm_grammar.proofs.Productive.{ProductiveAt, after_productive}
 use Rattle.dm_grammar.proofs.Tokens.{sentence_further, sentence_back, beginning_here, beginning_further, prefix_back, prefix_none, unsupported_here, unsupported_none, nowhere_further, meets_further}
-use Rattle.dm_grammar.proofs.Tests.{IsLl1-is_ll1}
+use Rattle.dm_grammar.proofs.Readiness.{IsLl1-is_ll1}
 
 -- What `read_from` gives is a reading; and a sentence has no other.
 
@@ -40,9 +40,13 @@ reads_next has g kind None kinds read productive sound complete rest reads_rest 
 reads_next has g kind (Some next) kinds read productive sound complete rest reads_rest = by_role (next.0 == unsupported) refl
   where
     by_role : (b : Bool) → (next.0 == unsupported) ≡ b → Reads has g (kind ∷ kinds) (if b then ([], Some (Unsupported 0)) else with_role next.0 (read (sequence next.1)))
-    by_role true e =
-        ([], kind ∷ kinds, refl, beginning_here has g productive,
-         (refl, ((λ s. (prefix_back has g kind next [] complete s).0 (eqb-true next.0 unsupported e)), unsupported_here has g kind next sound (eqb-true next.0 unsupported e) rest.0)))
+    by_role true e = (
+      [],
+      kind ∷ kinds,
+      refl,
+      beginning_here has g productive,
+      (refl, ((λ s. (prefix_back has g kind next [] complete s).0 (eqb-true next.0 unsupported e)), unsupported_here has g kind next sound (eqb-true next.0 unsupported e) rest.0)),
+    )
     by_role false e = reads_further has g kind next kinds (read (sequence next.1)).0 (read (sequence next.1)).1 sound complete (eqb-false next.0 unsupported e) reads_rest
 
 reads_rest : (has : Membership) (follow : ℕ → Bool) (kinds : List ℕ) (read : Grammar → Outcome) (next : Next) → KeepsAt has follow next → ProductiveAt has next → ((h : Grammar) → IsLl1 has h follow → is_productive has h ≡ true → stays_productive has h ≡ true → Reads has h kinds (read h)) → ReadsRest has kinds read next
@@ -62,7 +66,7 @@ reads has follow [] g small ll1 productive stays = at_end (is_nullable g) refl
         no roles (letter ∷ letters, p, q, supported, s) = absurd cc
 reads has follow (kind ∷ kinds) g small ll1 productive stays =
     reads_next has g kind (after has g kind) kinds (read_from has kinds) productive (after_sound has g kind) (after_complete has g follow kind small.0 ll1) (after_productive has g kind stays)
-      (reads_rest has follow kinds (read_from has kinds) (after has g kind) (after_keeps has g follow kind ll1) (after_productive has g kind stays) (λ h l p s. reads has follow kinds h small.1 l p s))
+    (reads_rest has follow kinds (read_from has kinds) (after has g kind) (after_keeps has g follow kind ll1) (after_productive has g kind stays) (λ h l p s. reads has follow kinds h small.1 l p s))
 
 -- a sentence is read with its roles
 abbrev pub ReadsSentences : Membership → List ℕ → (Grammar → Outcome) → Next → Type 0
@@ -91,7 +95,7 @@ sentence_reads has follow [] g small ll1 roles ([], e, q, supported, s) =
 sentence_reads has follow [] g small ll1 roles (letter ∷ letters, e, q, supported, s) = absurd cc
 sentence_reads has follow (kind ∷ kinds) g small ll1 roles s =
     sentence_next has g kind (after has g kind) kinds roles (read_from has kinds) (after_complete has g follow kind small.0 ll1)
-      (sentences_rest has follow kinds (read_from has kinds) (after has g kind) (after_keeps has g follow kind ll1) (λ h l rs r. sentence_reads has follow kinds h small.1 l rs r)) s
+    (sentences_rest has follow kinds (read_from has kinds) (after has g kind) (after_keeps has g follow kind ll1) (λ h l rs r. sentence_reads has follow kinds h small.1 l rs r)) s
 
 -- For a grammar that is ready, what reading gives is a reading.
 pub ready_reads : (has : Membership) (g : Grammar) (kinds : List ℕ) → All IsKind kinds → is_ready has g ≡ true → Reads has g kinds (read_from has kinds g)

@@ -1,7 +1,7 @@
 pub mod Nullable
 pub mod Derivative
 pub mod Productive
-pub mod Tests
+pub mod Readiness
 pub mod Tokens
 pub mod Exact
 pub mod PendingRest

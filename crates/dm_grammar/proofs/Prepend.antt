@@ -79,8 +79,8 @@ ReadSoFar-push has kinds at stack left roles more all taken role h so_far q p m 
     record {
       placed = omega (arith, ap length m, length-append roles (role ∷ []));
       rest =
-        ap (λ (z : List ℕ). prepend z (read (sequence left))) m ∙ prepend-push roles role (read (sequence left))
-        ∙ sym (ap (prepend roles) (read_from-drop has kinds at (sequence stack) h ∙ read_next-taken next taken role left read q s ∙ ap (λ (b : Bool). let made : Outcome = if b then ([], Some (Unsupported 0)) else with_role role (read (sequence left)) in made) p)) ∙ so_far.rest;
+          ap (λ (z : List ℕ). prepend z (read (sequence left))) m ∙ prepend-push roles role (read (sequence left))
+          ∙ sym (ap (prepend roles) (read_from-drop has kinds at (sequence stack) h ∙ read_next-taken next taken role left read q s ∙ ap (λ (b : Bool). let made : Outcome = if b then ([], Some (Unsupported 0)) else with_role role (read (sequence left)) in made) p)) ∙ so_far.rest;
     }
 
 drop_past : (xs : List ℕ) (count : ℕ) → length xs ≤ count → drop count xs ≡ []

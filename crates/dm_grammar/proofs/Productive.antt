@@ -34,9 +34,10 @@ productive_spells has (Seq a b) e =
     let y = productive_spells has b p.1 in
     (x.0 ++ y.0, AllSupported-append x.0 y.0 x.1 y.1, (x.0, y.0, refl, x.2, y.2))
 productive_spells has (Or a b) e =
-    elim (or_cases (is_productive has a) (is_productive has b) e)
-      [ inl h ↦ (let x = productive_spells has a h in (x.0, x.1, inl x.2))
-      | inr h ↦ (let x = productive_spells has b h in (x.0, x.1, inr x.2)) ]
+    elim (or_cases (is_productive has a) (is_productive has b) e) [
+      | inl h ↦ (let x = productive_spells has a h in (x.0, x.1, inl x.2))
+      | inr h ↦ (let x = productive_spells has b h in (x.0, x.1, inr x.2))
+    ]
 productive_spells has (Many a) e = ([], tt, (0, refl))
 
 -- what is left behind a token is productive, and stays so
@@ -46,9 +47,10 @@ ProductiveAt has (Some next) = (is_productive has (sequence next.1) ≡ true) ×
 
 -- a part b comes behind what is left of a part before it
 rest_productive : (has : Membership) (a b : Grammar) → is_productive has b ≡ true → stays_productive has b ≡ true → (is_productive has a ≡ true) × (stays_productive has a ≡ true) → (is_productive has (Seq a b) ≡ true) × (stays_productive has (Seq a b) ≡ true)
-rest_productive has a b productive stays x =
-    (and_from (is_productive has a) (is_productive has b) x.0 productive,
-     and_from (stays_productive has a && stays_productive has b) (is_productive has b) (and_from (stays_productive has a) (stays_productive has b) x.1 stays) productive)
+rest_productive has a b productive stays x = (
+  and_from (is_productive has a) (is_productive has b) x.0 productive,
+  and_from (stays_productive has a && stays_productive has b) (is_productive has b) (and_from (stays_productive has a) (stays_productive has b) x.1 stays) productive,
+)
 
 seq_productive : (has : Membership) (b : Grammar) (next_a next_b : Next) (nullable : Bool) → is_productive has b ≡ true → stays_productive has b ≡ true → ProductiveAt has next_a → ProductiveAt has next_b → ProductiveAt has (or_else (with_rest b next_a) (if nullable then next_b else None))
 seq_productive has b (Some next) next_b nullable productive stays x y = rest_productive has (sequence next.1) b productive stays x

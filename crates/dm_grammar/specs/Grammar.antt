@@ -22,14 +22,17 @@ Letter = ℕ × ℕ
 
 abbrev pub opening_kind : ℕ
 opening_kind = 1
+
 abbrev pub closing_kind : ℕ
 closing_kind = 2
+
 abbrev pub comma_kind : ℕ
 comma_kind = 3
 
 -- the role of a word that is not supported
 abbrev pub unsupported : ℕ
 unsupported = 0
+
 -- the role of a token in a skipped run
 abbrev pub skipped : ℕ
 skipped = 1

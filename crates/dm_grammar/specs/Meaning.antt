@@ -12,6 +12,10 @@ use Rattle.dm_grammar.specs.declared.stack.Pending.TheVariants as pending
 abbrev pub more_items : Grammar → ℕ → ℕ → Grammar
 more_items item separator role = grammar.Many (grammar.Seq (grammar.Word separator role) item)
 
+-- one item or more, with a separator between two of them
+abbrev pub list : Grammar → ℕ → ℕ → Grammar
+list item separator role = grammar.Seq item (more_items item separator role)
+
 -- the grammar that a rule stands for
 abbrev pub meaning : Rule → Grammar
 meaning rule.Empty = grammar.Empty
@@ -20,7 +24,7 @@ meaning rule.Skip = grammar.Skip 0
 meaning (rule.Seq' p first q second) = grammar.Seq (meaning first) (meaning second)
 meaning (rule.Or' p one q other) = grammar.Or (meaning one) (meaning other)
 meaning (rule.Many' p repeated) = grammar.Many (meaning repeated)
-meaning (rule.List' p item separator role) = grammar.Seq (meaning item) (more_items (meaning item) separator role)
+meaning (rule.List' p item separator role) = list (meaning item) separator role
 
 -- what a part of the stack still has to read
 abbrev pub rest_of : Pending → Grammar

@@ -8,6 +8,8 @@
 mod reader;
 mod rule;
 mod stack;
+#[cfg(test)]
+mod tests;
 
 pub use reader::{Fault, Reading, read};
 pub use rule::{Class, Classes, KIND_LIMIT, Kind, Role, Rule, SKIPPED, UNSUPPORTED};

@@ -23,7 +23,10 @@ pub enum Rule<'a> {
     /// No token.
     Empty,
     /// One token of the class, which has the role.
-    Word { class: Class, role: Role },
+    Word {
+        class: Class,
+        role: Role,
+    },
     /// Any tokens, with whole brackets among them, up to the comma or the closing bracket that ends them.
     Skip,
     /// The one, then the other.

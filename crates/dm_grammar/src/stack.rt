@@ -1,13 +1,15 @@
 ghost use Rattle.std.specs.Prelude.{◌≡◌, ◌++◌, ◌∷◌, [], List, IfOk};
 ghost use Rattle.dm_grammar.specs.Grammar.{Grammar, open_after};
 ghost use Rattle.dm_grammar.specs.Determinism.{is_nullable, after, sequence, skip_to, with_rest};
-ghost use Rattle.dm_grammar.specs.Meaning.{meaning, more_items, rest_of, rests_of, Advances, Steps};
+ghost use Rattle.dm_grammar.specs.Meaning.{meaning, list, more_items, rest_of, rests_of, Advances, Steps};
 
 use crate::rule::{Class, Classes, Kind, Role, Rule, SKIPPED};
 use std::alloc::AllocError;
 
 const OPENING: Kind = 1;
+
 const CLOSING: Kind = 2;
+
 const COMMA: Kind = 3;
 
 /// A part of what is still to be read of a sentence. The parts lie on a stack, the next one on top.
@@ -96,7 +98,11 @@ fn advance<'a, C: Classes>(
     match rule {
         Rule::Empty => Ok(None),
         Rule::Word { class, role } => {
-            if classes.contains(*class, kind) { Ok(Some(*role)) } else { Ok(None) }
+            if classes.contains(*class, kind) {
+                Ok(Some(*role))
+            } else {
+                Ok(None)
+            }
         }
         Rule::Skip => skip(0, kind, stack),
         Rule::Seq(first, second) => {
@@ -110,13 +116,11 @@ fn advance<'a, C: Classes>(
             taken => Ok(taken),
         },
         Rule::Many(repeated) => advance_before(classes, repeated, Pending::Rule(rule), kind, stack),
-        Rule::List { item, separator, role } => {
-            let more = Pending::Items { item: *item, separator: *separator, role: *role };
-            match advance_before(classes, item, more, kind, stack)? {
-                None if item.is_nullable() => advance_items(classes, item, *separator, *role, kind, stack),
-                taken => Ok(taken),
-            }
-        }
+        Rule::List {
+            item,
+            separator,
+            role,
+        } => advance_list(classes, item, *separator, *role, kind, stack),
     }
 }
 
@@ -137,6 +141,29 @@ fn advance_before<'a, C: Classes>(
         remove_last(stack);
     }
     Ok(taken)
+}
+
+/// Takes a token at the front of a list, which is a separator only where its items may be empty.
+#[cycle(advance)]
+fn advance_list<'a, C: Classes>(
+    classes: &C,
+    item: &'a Rule<'a>,
+    separator: Class,
+    role: Role,
+    kind: Kind,
+    stack: &mut Vec<Pending<'a>>,
+) -> Result<Option<Role>, AllocError>
+    ensures { IfOk result (λ taken. Advances taken (after C.has (list (meaning item.now) separator role) kind) (rests_of stack.old.items) (rests_of stack.new.items)) }
+{
+    let more = Pending::Items {
+        item,
+        separator,
+        role,
+    };
+    match advance_before(classes, item, more, kind, stack)? {
+        None if item.is_nullable() => advance_items(classes, item, separator, role, kind, stack),
+        taken => Ok(taken),
+    }
 }
 
 /// Takes a separator of a list, behind which an item and more items are to come.
@@ -185,7 +212,11 @@ fn open_after(depth: u64, kind: Kind) -> Result<Option<u64>, AllocError>
         };
         Ok(Some(deeper))
     } else if kind == CLOSING {
-        if depth == 0 { Ok(None) } else { Ok(Some(depth - 1)) }
+        if depth == 0 {
+            Ok(None)
+        } else {
+            Ok(Some(depth - 1))
+        }
     } else if kind == COMMA && depth == 0 {
         Ok(None)
     } else {

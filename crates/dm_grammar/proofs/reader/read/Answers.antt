@@ -9,8 +9,8 @@ pub returns-clause-exact : goal.returns-clause-exact
 returns-clause-exact g c =
     let grammar = meaning c.args.grammar.now in
     IfOk-weaker c.run.result _ _
-      (λ reading h. subst (λ (z : Outcome). Reads g.C.Classes.has grammar c.args.kinds.now z) (sym h) (ready_reads g.C.Classes.has grammar c.args.kinds.now c.requires.kinds c.requires.ready))
-      c.run.ensures
+    (λ reading h. subst (λ (z : Outcome). Reads g.C.Classes.has grammar c.args.kinds.now z) (sym h) (ready_reads g.C.Classes.has grammar c.args.kinds.now c.requires.kinds c.requires.ready))
+    c.run.ensures
 
 pub returns-clause-each : goal.returns-clause-each
 returns-clause-each g c = λ roles sentence.

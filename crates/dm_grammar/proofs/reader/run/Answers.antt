@@ -15,23 +15,23 @@ pub loop-at-init : goal.loop-at-init
 loop-at-init g c = record {
   placed = ap length c.in_ok-roles.ensures.items;
   rest =
-    let read = read_from g.C.Classes.has c.args.kinds.now in
-    ap (λ (z : List ℕ). prepend z (read (sequence (rests_of c.push.new.self.items)))) c.in_ok-roles.ensures.items
-    ∙ ap (λ (z : List Pending). read (sequence (rests_of z))) c.in_ok-push.ensures.items
-    ∙ ap (λ (z : List Pending). read (sequence (rests_of (z ++ Rule c.args.grammar ∷ [])))) c.new-stack.ensures.items
-    ∙ read_from-empty_first g.C.Classes.has c.args.kinds.now (meaning c.args.grammar.now);
+      let read = read_from g.C.Classes.has c.args.kinds.now in
+      ap (λ (z : List ℕ). prepend z (read (sequence (rests_of c.push.new.self.items)))) c.in_ok-roles.ensures.items
+      ∙ ap (λ (z : List Pending). read (sequence (rests_of z))) c.in_ok-push.ensures.items
+      ∙ ap (λ (z : List Pending). read (sequence (rests_of (z ++ Rule c.args.grammar ∷ [])))) c.new-stack.ensures.items
+      ∙ read_from-empty_first g.C.Classes.has c.args.kinds.now (meaning c.args.grammar.now);
 }
 
 pub returns-in-None : goal.returns-in-None
 returns-in-None g c =
     let e : read_from g.C.Classes.has c.args.kinds.now (meaning c.args.grammar.now) ≡ (c.loop-at.roles.items, Some (Syntax c.loop-at.at)) =
-      all-refused g.C.Classes.has c.args.kinds.now c.loop-at.at (rests_of c.loop-at.stack.items) (rests_of c.step.new.stack.items) c.loop-at.roles.items _ c.in_ok-step.field-0 c.loop-at-test.true c.loop-at.invariant c.in-None.is c.in_ok-step.ensures in
+    all-refused g.C.Classes.has c.args.kinds.now c.loop-at.at (rests_of c.loop-at.stack.items) (rests_of c.step.new.stack.items) c.loop-at.roles.items _ c.in_ok-step.field-0 c.loop-at-test.true c.loop-at.invariant c.in-None.is c.in_ok-step.ensures in
     cc
 
 pub returns-in-Some-eq0 : goal.returns-in-Some-eq0
 returns-in-Some-eq0 g c =
     let e : read_from g.C.Classes.has c.args.kinds.now (meaning c.args.grammar.now) ≡ (c.loop-at.roles.items, Some (Unsupported c.loop-at.at)) =
-      all-unsupported g.C.Classes.has c.args.kinds.now c.loop-at.at (rests_of c.loop-at.stack.items) (rests_of c.step.new.stack.items) c.loop-at.roles.items _ c.in_ok-step.field-0 c.in-Some-eq0.field-0 c.loop-at-test.true c.loop-at.invariant c.in-Some-eq0.is (eq-eqb c.in-Some-eq0.field-0 0 c.in-Some-eq0.field-0-test) c.in_ok-step.ensures in
+    all-unsupported g.C.Classes.has c.args.kinds.now c.loop-at.at (rests_of c.loop-at.stack.items) (rests_of c.step.new.stack.items) c.loop-at.roles.items _ c.in_ok-step.field-0 c.in-Some-eq0.field-0 c.loop-at-test.true c.loop-at.invariant c.in-Some-eq0.is (eq-eqb c.in-Some-eq0.field-0 0 c.in-Some-eq0.field-0-test) c.in_ok-step.ensures in
     cc
 
 pub loop-at-preserved : goal.loop-at-preserved
@@ -47,7 +47,7 @@ pub returns : goal.returns
 returns g c =
     let nullable : false ≡ is_nullable (sequence (rests_of c.loop-at.stack.items)) = sym c.if-may_end.false ∙ c.may_end.ensures ∙ ap (λ (z : List Pending). is_nullable (sequence (rests_of z))) c.deref.ensures.value in
     let end : read_from g.C.Classes.has c.args.kinds.now (meaning c.args.grammar.now) ≡ (c.loop-at.roles.items, Some (Syntax (length c.loop-at.roles.items))) =
-      all-end g.C.Classes.has c.args.kinds.now c.loop-at.at (rests_of c.loop-at.stack.items) c.loop-at.roles.items _ false c.loop-at-test.false c.loop-at.invariant nullable in
+    all-end g.C.Classes.has c.args.kinds.now c.loop-at.at (rests_of c.loop-at.stack.items) c.loop-at.roles.items _ false c.loop-at-test.false c.loop-at.invariant nullable in
     let placed : length c.loop-at.roles.items ≡ c.loop-at.at = c.loop-at.invariant.placed in
     let past : length c.args.kinds.now ≤ c.loop-at.at = c.loop-at-test.false in
     let within : c.loop-at.at ≤ length c.args.kinds.now = c.loop-at.auto.at-end in

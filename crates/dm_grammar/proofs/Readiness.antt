@@ -11,9 +11,10 @@ Disjoint-disjoint_below : (one other : ℕ → Bool) (count kind : ℕ) → disj
 Disjoint-disjoint_below one other zero kind e h x y = absurd (omega arith)
 Disjoint-disjoint_below one other (suc count) kind e h x y =
     let parts = and_parts (not (one count && other count)) (disjoint_below one other count) e in
-    elim (cases_lt kind count)
-      [ inl l ↦ Disjoint-disjoint_below one other count kind parts.1 l x y
-      | inr l ↦ (let same : kind ≡ count = omega arith in both (one count) (other count) (ap one (sym same) ∙ x) (ap other (sym same) ∙ y) parts.0) ]
+    elim (cases_lt kind count) [
+      | inl l ↦ Disjoint-disjoint_below one other count kind parts.1 l x y
+      | inr l ↦ (let same : kind ≡ count = omega arith in both (one count) (other count) (ap one (sym same) ∙ x) (ap other (sym same) ∙ y) parts.0)
+    ]
   where
     both : (a b : Bool) → a ≡ true → b ≡ true → not (a && b) ≡ true → ⊥
     both true true i j k = false≢true k
@@ -31,10 +32,12 @@ IsLl1-is_ll1 has (Or a b) follow e =
     let behind = not (is_nullable (Or a b)) || disjoint_below (first has (Or a b)) follow kind_count in
     let parts = and_parts (disjoint_below (first has a) (first has b) kind_count) (behind && (is_ll1 has a follow && is_ll1 has b follow)) e in
     let others = and_parts behind (is_ll1 has a follow && is_ll1 has b follow) parts.1 in
-    let both = and_parts (is_ll1 has a follow) (is_ll1 has b follow) others.1 in
-    ((λ kind low x y. Disjoint-disjoint_below (first has a) (first has b) kind_count kind parts.0 low x y),
-     (λ nullable kind low x y. Disjoint-disjoint_below (first has (Or a b)) follow kind_count kind (implied (is_nullable (Or a b)) (disjoint_below (first has (Or a b)) follow kind_count) nullable others.0) low x y),
-     IsLl1-is_ll1 has a follow both.0, IsLl1-is_ll1 has b follow both.1)
+    let both = and_parts (is_ll1 has a follow) (is_ll1 has b follow) others.1 in (
+      (λ kind low x y. Disjoint-disjoint_below (first has a) (first has b) kind_count kind parts.0 low x y),
+      (λ nullable kind low x y. Disjoint-disjoint_below (first has (Or a b)) follow kind_count kind (implied (is_nullable (Or a b)) (disjoint_below (first has (Or a b)) follow kind_count) nullable others.0) low x y),
+      IsLl1-is_ll1 has a follow both.0,
+      IsLl1-is_ll1 has b follow both.1,
+    )
   where
     implied : (a b : Bool) → a ≡ true → (not a || b) ≡ true → b ≡ true
     implied true b m e = e
