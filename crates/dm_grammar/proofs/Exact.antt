@@ -1,12 +1,12 @@
-use Rattle.std.proofs.Common.{◌≡◌, ℕ, ◌+◌, suc, zero, Bool, true, false, not, ◌&&◌, ◌||◌, ◌==◌, List, [], ◌∷◌, ◌++◌, map, length, Option, Some, None, All, is_some, ◌⊎◌, inl, inr, refl, sym, ◌∙◌, ap, subst, if◌then◌else◌, ◌<◌, arith}
+use Rattle.std.proofs.Common.{◌≡◌, ℕ, suc, Bool, true, false, ◌&&◌, ◌==◌, List, [], ◌∷◌, Option, Some, None, All, refl, sym, ◌∙◌, ap, subst, if◌then◌else◌, ◌<◌}
 use Rattle.std.proofs.lemmas.List.{append-nil}
 use Rattle.std.proofs.lemmas.List.Elements.{recursion_from_All}
 use Rattle.std.specs.List.{AllByRecursion}
-use Rattle.std.proofs.lemmas.Bool.{or_cases, and_parts, and_from, or_left, or_right, true≢false, false≢true, eqb-true, eqb-false, cases_lt}
-use Rattle.dm_grammar.specs.Grammar.{Grammar, Empty, Word, Skip, Seq, Or, Many, Membership, Letter, skipped, unsupported, open_after, Closes, Repeats, Spells, kind_count}
-use Rattle.dm_grammar.specs.Determinism.{is_nullable, Next, with_rest, or_else, skip_to, after, sequence, first, follow_before, any_below, disjoint_below, is_ll1, is_productive, stays_productive, no_kind, is_ready}
-use Rattle.dm_grammar.specs.Sentence.{kinds_of, roles_of, AllSupported, IsSentence, BeginsSentence, IsViablePrefix, ShowsUnsupported, GoesNowhere, MeetsUnsupported, IsFault, IsReading}
-use Rattle.dm_grammar.specs.Reading.{Outcome, later, with_role, read_next, read_from}
+use Rattle.std.proofs.lemmas.Bool.{and_parts, false≢true, eqb-true, eqb-false}
+use Rattle.dm_grammar.specs.Grammar.{Grammar, Membership, Letter, unsupported, Spells, kind_count}
+use Rattle.dm_grammar.specs.Determinism.{is_nullable, Next, after, sequence, is_ll1, is_productive, stays_productive, no_kind, is_ready}
+use Rattle.dm_grammar.specs.Sentence.{AllSupported, IsSentence, IsReading}
+use Rattle.dm_grammar.specs.Reading.{Outcome, with_role, read_next, read_from}
 use Rattle.dm_grammar.specs.declared.reader.Fault.{Fault}
 use Rattle.dm_grammar.specs.declared.reader.Fault.TheVariants.{Syntax, Unsupported}
 use Rattle.dm_grammar.proofs.Nullable.{spells_nullable, nullable_from_spells}

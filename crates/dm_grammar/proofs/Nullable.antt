@@ -1,7 +1,7 @@
-use Rattle.std.proofs.Common.{◌≡◌, ℕ, ◌+◌, suc, zero, Bool, true, false, not, ◌&&◌, ◌||◌, ◌==◌, List, [], ◌∷◌, ◌++◌, Option, Some, None, is_some, ◌⊎◌, inl, inr, refl, sym, ◌∙◌, ap, subst, if◌then◌else◌, ◌<◌}
-use Rattle.std.proofs.lemmas.Bool.{or_cases, and_parts, and_from, or_left, or_right, true≢false, false≢true}
-use Rattle.dm_grammar.specs.Grammar.{Grammar, Empty, Word, Skip, Seq, Or, Many, Membership, Letter, skipped, open_after, Closes, Repeats, Spells, kind_count}
-use Rattle.dm_grammar.specs.Determinism.{is_nullable, Next, with_rest, or_else, skip_to, after, sequence, first, follow_before}
+use Rattle.std.proofs.Common.{◌≡◌, suc, zero, true, List, [], ◌∷◌, ◌++◌, inl, inr, refl, sym, ◌∙◌}
+use Rattle.std.proofs.lemmas.Bool.{or_cases, and_parts, or_left, or_right, false≢true}
+use Rattle.dm_grammar.specs.Grammar.{Grammar, Empty, Word, Skip, Seq, Or, Many, Membership, Letter, Spells}
+use Rattle.dm_grammar.specs.Determinism.{is_nullable}
 
 -- the nullable run
 pub spells_nullable : (has : Membership) (g : Grammar) → is_nullable g ≡ true → Spells has g []

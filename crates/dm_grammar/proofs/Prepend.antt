@@ -3,7 +3,7 @@ use Rattle.std.proofs.Math.Seq.{drop-cons}
 use Rattle.std.proofs.lemmas.List.{length-append}
 use Rattle.std.proofs.lemmas.Option.{same_Some}
 use Rattle.dm_grammar.specs.Grammar.{Grammar, Membership, unsupported, Empty, Seq}
-use Rattle.dm_grammar.specs.Determinism.{Next, after, sequence, is_nullable, or_else}
+use Rattle.dm_grammar.specs.Determinism.{Next, after, sequence, is_nullable}
 use Rattle.dm_grammar.specs.Reading.{Outcome, with_role, read_next, read_from}
 use Rattle.dm_grammar.specs.Meaning.{Steps}
 use Rattle.dm_grammar.specs.declared.reader.Fault.TheVariants.{Syntax, Unsupported}

@@ -1,9 +1,8 @@
-use Rattle.std.proofs.Common.{◌≡◌, ℕ, ◌+◌, suc, zero, Bool, true, false, not, ◌&&◌, ◌||◌, ◌==◌, List, [], ◌∷◌, ◌++◌, map, length, Option, Some, None, is_some, ◌⊎◌, inl, inr, refl, sym, ◌∙◌, ap, subst, if◌then◌else◌, ◌<◌, arith}
-use Rattle.std.proofs.lemmas.Bool.{or_cases, and_parts, and_from, or_left, or_right, true≢false, false≢true, eqb-true, eqb-false, cases_lt}
-use Rattle.dm_grammar.specs.Grammar.{Grammar, Empty, Word, Skip, Seq, Or, Many, Membership, Letter, skipped, unsupported, open_after, Closes, Repeats, Spells, kind_count}
-use Rattle.dm_grammar.specs.Determinism.{is_nullable, Next, with_rest, or_else, skip_to, after, sequence, first, follow_before, any_below, disjoint_below, is_ll1, is_productive, stays_productive, no_kind, is_ready}
-use Rattle.dm_grammar.specs.Sentence.{kinds_of, roles_of, AllSupported, IsSentence, BeginsSentence, IsViablePrefix, ShowsUnsupported, GoesNowhere, MeetsUnsupported, IsFault, IsReading}
-use Rattle.dm_grammar.proofs.Derivative.{Disjoint, IsLl1}
+use Rattle.std.proofs.Common.{◌≡◌, ℕ, suc, zero, Bool, true, false, not, ◌&&◌, ◌||◌, inl, inr, sym, ◌∙◌, ap, ◌<◌, arith}
+use Rattle.std.proofs.lemmas.Bool.{and_parts, false≢true, cases_lt}
+use Rattle.dm_grammar.specs.Grammar.{Grammar, Empty, Word, Skip, Seq, Or, Many, Membership, kind_count}
+use Rattle.dm_grammar.specs.Determinism.{is_nullable, first, follow_before, disjoint_below, is_ll1}
+use Rattle.dm_grammar.proofs.Derivative.{IsLl1}
 
 -- The tests mean what they compute.
 

@@ -1,8 +1,7 @@
-use Rattle.std.proofs.Common.{◌≡◌, ℕ, ◌+◌, suc, zero, Bool, true, false, not, ◌&&◌, ◌||◌, ◌==◌, List, [], ◌∷◌, ◌++◌, map, length, Option, Some, None, is_some, ◌⊎◌, inl, inr, refl, sym, ◌∙◌, ap, subst, if◌then◌else◌, ◌<◌, arith}
-use Rattle.std.proofs.lemmas.Bool.{or_cases, and_parts, and_from, or_left, or_right, true≢false, false≢true, eqb-true, eqb-false, cases_lt}
-use Rattle.dm_grammar.specs.Grammar.{Grammar, Empty, Word, Skip, Seq, Or, Many, Membership, Letter, skipped, unsupported, open_after, Closes, Repeats, Spells, kind_count}
-use Rattle.dm_grammar.specs.Determinism.{is_nullable, Next, with_rest, or_else, skip_to, after, sequence, first, follow_before, any_below, disjoint_below, is_ll1, is_productive, stays_productive, no_kind, is_ready}
-use Rattle.dm_grammar.specs.Sentence.{kinds_of, roles_of, AllSupported, IsSentence, BeginsSentence, IsViablePrefix, ShowsUnsupported, GoesNowhere, MeetsUnsupported, IsFault, IsReading}
+use Rattle.std.proofs.Common.{◌≡◌, ℕ, true, List, [], ◌∷◌, ◌++◌, Some, None, refl, sym, ◌∙◌, ap, subst}
+use Rattle.dm_grammar.specs.Grammar.{Grammar, Membership, Letter, unsupported, Spells}
+use Rattle.dm_grammar.specs.Determinism.{sequence, is_productive}
+use Rattle.dm_grammar.specs.Sentence.{kinds_of, roles_of, IsSentence, BeginsSentence, IsViablePrefix, ShowsUnsupported, GoesNowhere, MeetsUnsupported}
 use Rattle.dm_grammar.proofs.Derivative.{SoundAt, CompleteAt}
 use Rattle.dm_grammar.proofs.Productive.{productive_spells}
 

@@ -1,5 +1,5 @@
 -- Grammars, and what each of them spells.
-use Rattle.std.specs.Prelude.{◌≡◌, ℕ, ◌<◌, suc, zero, Bool, true, ◌==◌, List, [], ◌∷◌, ◌++◌, Option, Some, None, ◌⊎◌, if◌then◌else◌}
+use Rattle.std.specs.Prelude.{◌≡◌, ℕ, suc, zero, Bool, true, ◌==◌, List, [], ◌∷◌, ◌++◌, Option, Some, None, ◌⊎◌, if◌then◌else◌}
 
 -- A grammar over kinds of tokens, the terminal symbols, which are numbers.
 -- `Word class role` is one token of the class, and gives it the role.

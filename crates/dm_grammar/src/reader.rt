@@ -1,4 +1,4 @@
-ghost use Rattle.std.specs.Prelude.{◌≡◌, ◌<◌, ℕ, List, true, All, IfOk};
+ghost use Rattle.std.specs.Prelude.{◌≡◌, ◌<◌, ℕ, List, All, IsTrue, IfOk};
 ghost use Rattle.dm_grammar.specs.Determinism.{is_ready};
 ghost use Rattle.dm_grammar.specs.Sentence.{IsSentence, IsReading};
 ghost use Rattle.dm_grammar.specs.Reading.{read_from};
@@ -26,6 +26,18 @@ pub struct Reading {
     pub fault: Option<Fault>,
 }
 
+impl Reading {
+    fn stopped(roles: Vec<Role>, fault: Fault) -> Self
+        ensures roles { result.roles ≡ roles }
+        ensures fault { result.fault ≡ Some fault }
+    {
+        Reading {
+            roles,
+            fault: Some(fault),
+        }
+    }
+}
+
 /// Reads a sentence of the grammar, or finds the first fault. An `Err` is for want of memory.
 pub fn read<'a, C: Classes>(
     alloc: Global,
@@ -34,12 +46,13 @@ pub fn read<'a, C: Classes>(
     kinds: &[Kind],
 ) -> Result<Reading, AllocError>
     requires kinds { All (λ kind. kind < KIND_LIMIT) kinds.now }
-    requires ready { is_ready C.has (meaning grammar.now) ≡ true }
+    requires ready { IsTrue (is_ready C.has (meaning grammar.now)) }
 
     // What is read is a sentence, or begins one as far as the first fault.
-    ensures exact { IfOk result (λ reading. IsReading C.has (meaning grammar.now) kinds.now reading.roles.items reading.fault) }
+    ensures exact { IfOk result (λ reading.
+        IsReading C.has (meaning grammar.now) kinds.now reading.roles.items reading.fault) }
     // Each sentence is read, and has no other roles.
-    ensures each { (roles : List ℕ) → IsSentence C.has (meaning grammar.now) kinds.now roles
+    ensures each_sentence { (roles : List ℕ) → IsSentence C.has (meaning grammar.now) kinds.now roles
         → IfOk result (λ reading. (reading.roles.items ≡ roles) × (reading.fault ≡ None)) }
 {
     run(alloc, classes, grammar, kinds)
@@ -51,31 +64,22 @@ fn run<'a, C: Classes>(
     grammar: &'a Rule<'a>,
     kinds: &[Kind],
 ) -> Result<Reading, AllocError>
-    ensures { IfOk result (λ reading. (reading.roles.items, reading.fault) ≡ read_from C.has kinds.now (meaning grammar.now)) }
+    ensures { IfOk result (λ reading.
+        (reading.roles.items, reading.fault) ≡ read_from C.has kinds.now (meaning grammar.now)) }
 {
     let mut stack = Vec::new(alloc);
     stack.push(Pending::Rule(grammar))?;
     let mut roles = Vec::with_capacity(alloc, kinds.len())?;
     for (at, kind) in kinds.iter().enumerate() {
         match step(classes, *kind, &mut stack)? {
-            None => return Ok(stopped(roles, Fault::Syntax { at })),
-            Some(UNSUPPORTED) => return Ok(stopped(roles, Fault::Unsupported { at })),
+            None => return Ok(Reading::stopped(roles, Fault::Syntax { at })),
+            Some(UNSUPPORTED) => return Ok(Reading::stopped(roles, Fault::Unsupported { at })),
             Some(role) => roles.push(role)?,
         }
     }
     if may_end(&stack) {
         Ok(Reading { roles, fault: None })
     } else {
-        Ok(stopped(roles, Fault::Syntax { at: kinds.len() }))
-    }
-}
-
-fn stopped(roles: Vec<Role>, fault: Fault) -> Reading
-    ensures roles { result.roles ≡ roles }
-    ensures fault { result.fault ≡ Some fault }
-{
-    Reading {
-        roles,
-        fault: Some(fault),
+        Ok(Reading::stopped(roles, Fault::Syntax { at: kinds.len() }))
     }
 }

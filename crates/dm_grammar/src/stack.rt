@@ -54,7 +54,8 @@ pub fn step<'a, C: Classes>(
     kind: Kind,
     stack: &mut Vec<Pending<'a>>,
 ) -> Result<Option<Role>, AllocError>
-    ensures { IfOk result (λ role. Steps role (after C.has (sequence (rests_of stack.old.items)) kind) (rests_of stack.new.items)) }
+    ensures { IfOk result (λ taken. Steps taken
+        (after C.has (sequence (rests_of stack.old.items)) kind) (rests_of stack.new.items)) }
 {
     while let Some(top) = stack.pop() {
         let taken = advance_pending(classes, &top, kind, stack)?;
@@ -71,7 +72,8 @@ fn advance_pending<'a, C: Classes>(
     kind: Kind,
     stack: &mut Vec<Pending<'a>>,
 ) -> Result<Option<Role>, AllocError>
-    ensures { IfOk result (λ role. Advances role (after C.has (rest_of top.now) kind) (rests_of stack.old.items) (rests_of stack.new.items)) }
+    ensures { IfOk result (λ taken. Advances taken (after C.has (rest_of top.now) kind)
+        (rests_of stack.old.items) (rests_of stack.new.items)) }
 {
     match top {
         Pending::Rule(rule) => advance(classes, rule, kind, stack),
@@ -93,7 +95,8 @@ fn advance<'a, C: Classes>(
     kind: Kind,
     stack: &mut Vec<Pending<'a>>,
 ) -> Result<Option<Role>, AllocError>
-    ensures { IfOk result (λ role. Advances role (after C.has (meaning rule.now) kind) (rests_of stack.old.items) (rests_of stack.new.items)) }
+    ensures { IfOk result (λ taken. Advances taken (after C.has (meaning rule.now) kind)
+        (rests_of stack.old.items) (rests_of stack.new.items)) }
 {
     match rule {
         Rule::Empty => Ok(None),
@@ -133,7 +136,8 @@ fn advance_before<'a, C: Classes>(
     kind: Kind,
     stack: &mut Vec<Pending<'a>>,
 ) -> Result<Option<Role>, AllocError>
-    ensures { IfOk result (λ role. Advances role (with_rest (rest_of rest.entry) (after C.has (meaning rule.now) kind)) (rests_of stack.old.items) (rests_of stack.new.items)) }
+    ensures { IfOk result (λ taken. Advances taken (with_rest (rest_of rest.entry) (after C.has (meaning rule.now) kind))
+        (rests_of stack.old.items) (rests_of stack.new.items)) }
 {
     stack.push(rest)?;
     let taken = advance(classes, rule, kind, stack)?;
@@ -153,7 +157,8 @@ fn advance_list<'a, C: Classes>(
     kind: Kind,
     stack: &mut Vec<Pending<'a>>,
 ) -> Result<Option<Role>, AllocError>
-    ensures { IfOk result (λ taken. Advances taken (after C.has (list (meaning item.now) separator role) kind) (rests_of stack.old.items) (rests_of stack.new.items)) }
+    ensures { IfOk result (λ taken. Advances taken (after C.has (list (meaning item.now) separator role) kind)
+        (rests_of stack.old.items) (rests_of stack.new.items)) }
 {
     let more = Pending::Items {
         item,
@@ -175,7 +180,8 @@ fn advance_items<'a, C: Classes>(
     kind: Kind,
     stack: &mut Vec<Pending<'a>>,
 ) -> Result<Option<Role>, AllocError>
-    ensures { IfOk result (λ taken. Advances taken (after C.has (more_items (meaning item.now) separator role) kind) (rests_of stack.old.items) (rests_of stack.new.items)) }
+    ensures { IfOk result (λ taken. Advances taken (after C.has (more_items (meaning item.now) separator role) kind)
+        (rests_of stack.old.items) (rests_of stack.new.items)) }
 {
     if !classes.contains(separator, kind) {
         return Ok(None);
@@ -191,7 +197,8 @@ fn advance_items<'a, C: Classes>(
 
 /// Takes a token of a skipped run.
 fn skip(depth: u64, kind: Kind, stack: &mut Vec<Pending>) -> Result<Option<Role>, AllocError>
-    ensures { IfOk result (λ role. Advances role (skip_to (open_after depth kind)) (rests_of stack.old.items) (rests_of stack.new.items)) }
+    ensures { IfOk result (λ taken. Advances taken (skip_to (open_after depth kind))
+        (rests_of stack.old.items) (rests_of stack.new.items)) }
 {
     match open_after(depth, kind)? {
         None => Ok(None),
@@ -203,6 +210,7 @@ fn skip(depth: u64, kind: Kind, stack: &mut Vec<Pending>) -> Result<Option<Role>
 }
 
 /// The brackets that are open behind a token of a skipped run, or `None` where the token ends the run.
+/// More of them than a `u64` counts are want of memory.
 fn open_after(depth: u64, kind: Kind) -> Result<Option<u64>, AllocError>
     ensures { IfOk result (λ after. after ≡ open_after depth kind) }
 {
@@ -225,7 +233,8 @@ fn open_after(depth: u64, kind: Kind) -> Result<Option<u64>, AllocError>
 }
 
 fn remove_last(stack: &mut Vec<Pending>)
-    ensures { (below : List Grammar) (top : Grammar) → rests_of stack.old.items ≡ below ++ top ∷ [] → rests_of stack.new.items ≡ below }
+    ensures { (below : List Grammar) (top : Grammar) → rests_of stack.old.items ≡ below ++ top ∷ []
+        → rests_of stack.new.items ≡ below }
 {
     stack.pop();
 }

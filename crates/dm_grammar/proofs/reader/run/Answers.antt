@@ -1,14 +1,12 @@
-use Rattle.std.proofs.Common.{◌≡◌, ℕ, Bool, true, false, ◌++◌, ◌∷◌, [], List, ◌≤◌, length, Option, Some, None, refl, sym, ◌∙◌, ap, cond, if◌then◌else◌, arith, ◌==◌}
+use Rattle.std.proofs.Common.{◌≡◌, ℕ, true, false, ◌++◌, ◌∷◌, [], List, ◌≤◌, length, Some, sym, ◌∙◌, ap, arith}
 use Rattle.std.proofs.lemmas.Bool.{eq-eqb, ne_eqb}
-use Rattle.dm_grammar.specs.Grammar.{Grammar}
 use Rattle.dm_grammar.specs.Determinism.{is_nullable, sequence}
 use Rattle.dm_grammar.specs.declared.stack.Pending.{Pending}
 use Rattle.dm_grammar.specs.declared.stack.Pending.TheVariants.{Rule}
-use Rattle.dm_grammar.specs.declared.reader.Fault.{Fault}
 use Rattle.dm_grammar.specs.declared.reader.Fault.TheVariants.{Syntax, Unsupported}
 use Rattle.dm_grammar.specs.Meaning.{meaning, rests_of}
-use Rattle.dm_grammar.specs.Reading.{read_from, Outcome}
-use Rattle.dm_grammar.proofs.Prepend.{all-refused, all-unsupported, all-end, ReadSoFar-push, read_from-empty_first, ReadSoFar, prepend}
+use Rattle.dm_grammar.specs.Reading.{read_from}
+use Rattle.dm_grammar.proofs.Prepend.{all-refused, all-unsupported, all-end, ReadSoFar-push, read_from-empty_first, prepend}
 use Rattle.dm_grammar.proofs.reader.run.Goals as goal
 
 pub loop-at-init : goal.loop-at-init

@@ -1,4 +1,4 @@
-use Rattle.std.proofs.Common.{◌≡◌, Bool, true, false, is_some, ◌⊎◌, inl, inr, sym, ◌∙◌}
+use Rattle.std.proofs.Common.{◌≡◌, true, false, is_some, ◌⊎◌, inl, inr, sym, ◌∙◌}
 use Rattle.dm_grammar.specs.Determinism.{after, sequence, is_nullable}
 use Rattle.dm_grammar.specs.Meaning.{rest_of, rests_of}
 use Rattle.dm_grammar.proofs.PendingRest.{after-pop, Steps-asked, after-passed}
