@@ -16,6 +16,7 @@ is_nullable (Many a) = true
 abbrev pub Next : Type 0
 Next = Option (ℕ × List Grammar)
 
+-- the rest comes behind it, too
 abbrev pub with_rest : Grammar → Next → Next
 with_rest rest None = None
 with_rest rest (Some next) = Some (next.0, rest ∷ next.1)
@@ -24,6 +25,7 @@ abbrev pub or_else : Next → Next → Next
 or_else None other = other
 or_else (Some next) other = Some next
 
+-- the token is skipped, and so many brackets are then open
 abbrev pub skip_to : Option ℕ → Next
 skip_to None = None
 skip_to (Some depth) = Some (skipped, Skip depth ∷ [])
@@ -58,7 +60,8 @@ abbrev pub disjoint_below : (ℕ → Bool) → (ℕ → Bool) → ℕ → Bool
 disjoint_below one other zero = true
 disjoint_below one other (suc kind) = not (one kind && other kind) && disjoint_below one other kind
 
--- one token tells how the grammar goes on, where kinds of `follow` may stand behind it
+-- One token tells how the grammar goes on, where kinds of `follow` may stand behind it: the two of a choice have no
+-- first kind in common, and neither has what may be empty with what follows it.
 abbrev pub is_ll1 : Membership → Grammar → (ℕ → Bool) → Bool
 is_ll1 has Empty follow = true
 is_ll1 has (Word class role) follow = true
@@ -87,10 +90,10 @@ stays_productive has (Seq a b) = stays_productive has a && stays_productive has 
 stays_productive has (Or a b) = stays_productive has a && stays_productive has b
 stays_productive has (Many a) = stays_productive has a
 
--- nothing follows a whole sentence
+-- what may stand behind a whole sentence: nothing
 abbrev pub no_kind : ℕ → Bool
 no_kind kind = false
 
--- the grammar can be read
+-- the grammar can be read with one token of look-ahead, and each front that is read begins a sentence
 unfoldable pub is_ready : Membership → Grammar → Bool
 is_ready has g = is_ll1 has g no_kind && (is_productive has g && stays_productive has g)
