@@ -3,7 +3,7 @@ use Rattle.std.proofs.lemmas.Bool.{or_cases, and_parts, or_left, or_right, false
 use Rattle.dm_grammar.specs.Grammar.{Grammar, Empty, Word, Skip, Seq, Or, Many, Membership, Letter, Spells}
 use Rattle.dm_grammar.specs.Determinism.{is_nullable}
 
--- the nullable run
+-- `is_nullable` tells whether the empty run of tokens is spelled
 pub spells_nullable : (has : Membership) (g : Grammar) → is_nullable g ≡ true → Spells has g []
 spells_nullable has Empty e = refl
 spells_nullable has (Word class role) e = absurd (false≢true e)

@@ -37,7 +37,7 @@ unsupported = 0
 abbrev pub skipped : ℕ
 skipped = 1
 
--- there are fewer kinds
+-- each kind is below it
 abbrev pub kind_count : ℕ
 kind_count = 128
 

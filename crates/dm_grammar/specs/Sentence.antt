@@ -24,7 +24,7 @@ abbrev pub BeginsSentence : Membership → Grammar → List ℕ → List ℕ →
 BeginsSentence has g kinds roles =
     (letters : List Letter) × (more : List Letter) × (kinds_of letters ≡ kinds) × (roles_of letters ≡ roles) × AllSupported (letters ++ more) × Spells has g (letters ++ more)
 
--- some sentence begins with the tokens
+-- a viable prefix: some sentence begins with the tokens
 abbrev pub IsViablePrefix : Membership → Grammar → List ℕ → Type 0
 IsViablePrefix has g kinds = (roles : List ℕ) × BeginsSentence has g kinds roles
 
