@@ -1,0 +1,5 @@
+pub mod Grammar
+pub mod Sentence
+pub mod Determinism
+pub mod Reading
+pub mod Meaning
