@@ -37,8 +37,8 @@ shelf_after (Err shelf_error.Missing) shelf = record shelf { calls = raised shel
 shelf_after (Err shelf_error.Failed) shelf = record shelf { calls = raised shelf.calls; faults = raised shelf.faults }
 shelf_after (Err shelf_error.Memory) shelf = record shelf { calls = raised shelf.calls }
 
--- A memory sink: the bytes that it has taken, and how many it has room for before it must grow; the numbers of the calls
--- that are to fail; how many calls there were, and how many of them failed.
+-- A memory sink: the bytes that it has taken, and how many it has room for; the numbers of the calls that are to
+-- fail; how many calls there were, and how many of them failed.
 pub record SinkContent : Type 0 where
   pub contents : List ℕ
   pub room : ℕ
@@ -46,14 +46,18 @@ pub record SinkContent : Type 0 where
   pub calls : ℕ
   pub faults : ℕ
 
+-- There is no room for a piece after the bytes, so a sink or journal of them must grow, for which it takes memory.
+abbrev pub LacksRoom : ℕ → List ℕ → List ℕ → Type 0
+LacksRoom room bytes piece = room < length bytes + length piece
+
 -- A put adds all of the bytes, or it fails and adds none.
 abbrev pub sink_after : Result (Unit {0}) SinkError → List ℕ → SinkContent → SinkContent
 sink_after (Ok _) bytes sink = record sink { contents = sink.contents ++ bytes; calls = raised sink.calls }
 sink_after (Err _) bytes sink = record sink { calls = raised sink.calls; faults = raised sink.faults }
 
--- A memory journal: its bytes, and how many it has room for before it must grow; the numbers of the calls that are to
--- fail, and how many bytes of the piece each append among those keeps; how many calls there were, how many of them
--- failed, and how many of those that were to fail were appends.
+-- A memory journal: its bytes, and how many it has room for; the numbers of the calls that are to fail, and how
+-- many bytes of the piece each append among those keeps; how many calls there were, how many of them failed, and how
+-- many appends were to fail.
 pub record JournalContent : Type 0 where
   pub contents : List ℕ
   pub room : ℕ
@@ -81,9 +85,9 @@ part_kept journal piece =
 
 -- The part was added, or nothing was, since there was no room for it.
 abbrev pub AddsOrLacksRoom : ℕ → List ℕ → List ℕ → List ℕ → Type 0
-AddsOrLacksRoom room before part now = (now ≡ before ++ part) ⊎ ((now ≡ before) × (room < length before + length part))
+AddsOrLacksRoom room before part now = (now ≡ before ++ part) ⊎ ((now ≡ before) × LacksRoom room before part)
 
--- what an append counts: the call, its failing, and whether it was to fail
+-- what an append counts: the call, and where it fails the fault, and whether it was to fail
 abbrev pub append_counted : Result (Unit {0}) JournalError → JournalContent → JournalContent
 append_counted (Ok _) journal = record journal { calls = raised journal.calls }
 append_counted (Err _) journal =

@@ -3,7 +3,7 @@ ghost use Rattle.std.specs.Option.{option_copied};
 ghost use Rattle.dm_base.specs.Outside.{ReadsFile};
 ghost use Rattle.dm_base.specs.Memory.{is_to_fail, file_of, shelf_after};
 
-use crate::memory::call::Calls;
+use crate::memory::calls::Calls;
 use crate::memory::front::front;
 use crate::{Shelf, ShelfError};
 use std::alloc::Global;

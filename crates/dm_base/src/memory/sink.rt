@@ -1,7 +1,7 @@
-ghost use Rattle.std.specs.Prelude.{◌≡◌, ◌+◌, ◌<◌, ◌≤◌, ◌⊎◌, length, vec_capacity, IsTrue, IsErr, OnErr};
-ghost use Rattle.dm_base.specs.Memory.{is_to_fail, sink_after};
+ghost use Rattle.std.specs.Prelude.{◌≡◌, ◌≤◌, ◌⊎◌, vec_capacity, IsTrue, IsErr, OnErr};
+ghost use Rattle.dm_base.specs.Memory.{is_to_fail, LacksRoom, sink_after};
 
-use crate::memory::call::Calls;
+use crate::memory::calls::Calls;
 use crate::{Sink, SinkError};
 use std::marker::Model;
 
@@ -64,7 +64,8 @@ impl Sink for MemorySink {
         ensures after { self.new ≡ record (sink_after result bytes.now self.old) { room = self.new.room } }
 
         ensures failing { IsTrue (is_to_fail self.old.failing self.old.calls) → IsErr result }
-        ensures cause { OnErr result (IsTrue (is_to_fail self.old.failing self.old.calls) ⊎ (self.old.room < length self.old.contents + length bytes.now)) }
+        ensures cause { OnErr result
+            (IsTrue (is_to_fail self.old.failing self.old.calls) ⊎ LacksRoom self.old.room self.old.contents bytes.now) }
 
         ensures faults { self.old.faults ≤ self.new.faults }
         ensures room { self.old.room ≤ self.new.room }

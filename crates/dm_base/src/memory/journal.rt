@@ -1,8 +1,8 @@
-ghost use Rattle.std.specs.Prelude.{◌≡◌, ◌+◌, ◌<◌, ◌≤◌, ◌⊎◌, ◌↔◌, ◌++◌, length, Some, vec_len, vec_capacity, IfOk, IsTrue, IsErr, IsErrOf, IsOkUnless, OnOk, OnErr};
+ghost use Rattle.std.specs.Prelude.{◌≡◌, ◌+◌, ◌≤◌, ◌⊎◌, ◌↔◌, ◌++◌, Some, vec_len, vec_capacity, IfOk, IsTrue, IsErr, IsErrOf, IsOkUnless, OnOk, OnErr};
 ghost use Rattle.dm_base.specs.Outside.{AddsPart, IsFront, IsWithin};
-ghost use Rattle.dm_base.specs.Memory.{is_to_fail, load_after, append_counted, part_kept, AddsOrLacksRoom, cut_after};
+ghost use Rattle.dm_base.specs.Memory.{is_to_fail, load_after, append_counted, part_kept, AddsOrLacksRoom, LacksRoom, cut_after};
 
-use crate::memory::call::Calls;
+use crate::memory::calls::Calls;
 use crate::memory::front::{first_bytes, front};
 use crate::{Journal, JournalError};
 use std::alloc::Global;
@@ -90,14 +90,19 @@ impl Journal for MemoryJournal {
     /// Fails where the call's number is in `failing`, or where there is no memory to grow.
     fn append(&mut self, piece: &[u8]) -> Result<(), JournalError>
         ensures ok { OnOk result (self.new.contents ≡ self.old.contents ++ piece.now) }
-        ensures kept { OnErr result (AddsOrLacksRoom self.old.room self.old.contents (part_kept self.old piece.now) self.new.contents) }
+        ensures kept { OnErr result
+            (AddsOrLacksRoom self.old.room self.old.contents (part_kept self.old piece.now) self.new.contents) }
         ensures part { OnErr result (AddsPart (Some self.old.contents) piece.now (Some self.new.contents)) }
 
         ensures failing { IsTrue (is_to_fail self.old.failing self.old.calls) → IsErr result }
-        ensures cause { OnErr result (IsTrue (is_to_fail self.old.failing self.old.calls) ⊎ (self.old.room < length self.old.contents + length piece.now)) }
+        ensures cause { OnErr result
+            (IsTrue (is_to_fail self.old.failing self.old.calls) ⊎ LacksRoom self.old.room self.old.contents piece.now) }
         ensures only_failed { IsOkUnless result JournalError.Failed }
 
-        ensures counted { self.new ≡ record (append_counted result self.old) { contents = self.new.contents; room = self.new.room } }
+        ensures counted { self.new ≡ record (append_counted result self.old) {
+          contents = self.new.contents;
+          room = self.new.room;
+        } }
         ensures faults { self.old.faults ≤ self.new.faults }
         ensures room { self.old.room ≤ self.new.room }
     {
