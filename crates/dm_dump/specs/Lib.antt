@@ -1,0 +1,4 @@
+pub mod Letters
+pub mod Literals
+pub mod Meaning
+pub mod PlainDump
