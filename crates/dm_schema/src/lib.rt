@@ -5,7 +5,9 @@ mod change;
 mod column;
 mod fault;
 mod fitting;
+mod named;
 mod row_change;
+mod rows;
 mod schema;
 mod table_name;
 
@@ -13,7 +15,9 @@ pub use change::{Change, Spot};
 pub use column::{Column, DefaultRule, Kind, UniqueKey};
 pub use fault::{EffectFault, SchemaFault};
 pub use fitting::fits;
+pub use named::{Named, in_name_order};
 pub use row_change::{KeyValue, RowChange};
+pub use rows::key_of;
 pub use schema::Schema;
 pub use table_name::TableName;
 

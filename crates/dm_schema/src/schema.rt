@@ -1,11 +1,12 @@
-ghost use Rattle.std.specs.Prelude.{◌≡◌, IsTrue};
+ghost use Rattle.std.specs.Prelude.{◌≡◌, IsTrue, IfOk};
 ghost use Rattle.std.specs.List.{list_any, list_all};
 ghost use Rattle.std.specs.Option.{option_copied};
 ghost use Rattle.dm_schema.specs.Kinds.{has_tested_default};
 ghost use Rattle.dm_schema.specs.Names.{column_at, has_column, same_name};
-ghost use Rattle.dm_schema.specs.Schemas.{schema_of, is_formed, all_columns, is_nullable_column, has_nullable, is_unfit_default, column_repeats, key_repeats, names_repeat, some_key_repeats_names};
+ghost use Rattle.dm_schema.specs.Schemas.{schema_of, schema_equal, is_formed, all_columns, is_nullable_column, has_nullable, is_unfit_default, column_repeats, key_repeats, names_repeat, some_key_repeats_names};
 
 use crate::fitting::fits;
+use crate::named::in_name_order;
 use crate::{Column, DefaultRule, SchemaFault, UniqueKey};
 use dm_list::{Copied, Sequence};
 use dm_value::{Name, Names};
@@ -91,6 +92,19 @@ impl Schema {
         ensures { result.now ≡ self.now.uniques }
     {
         self.uniques.as_slice()
+    }
+
+    /// Whether two schemas are equal, the order of their columns and unique keys apart.
+    pub fn equals(&self, alloc: Global, other: &Schema) -> Result<bool, AllocError>
+        ensures { IfOk result (λ equal. equal ≡ schema_equal self.now other.now) }
+    {
+        let columns = in_name_order(alloc, self.columns())?;
+        let other_columns = in_name_order(alloc, other.columns())?;
+        let uniques = in_name_order(alloc, self.uniques())?;
+        let other_uniques = in_name_order(alloc, other.uniques())?;
+        Ok(columns == other_columns
+            && self.primary == other.primary
+            && uniques == other_uniques)
     }
 
     /// The column of a name, if there is one.
