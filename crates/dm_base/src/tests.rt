@@ -14,6 +14,14 @@ fn read<S: Shelf>(
     shelf.read_file(alloc, name, most)
 }
 
+fn load<J: Journal>(journal: &mut J, alloc: Global, most: u32) -> Result<Vec<u8>, JournalError> {
+    journal.load(alloc, most)
+}
+
+fn append<J: Journal>(journal: &mut J, piece: &[u8]) -> Result<(), JournalError> {
+    journal.append(piece)
+}
+
 fn put<S: Sink>(sink: &mut S, bytes: &[u8]) -> Result<(), SinkError> {
     sink.put(bytes)
 }
@@ -67,11 +75,11 @@ fn journal_keeps_what_it_is_told_to(rt: HostRuntime) -> Result<(), Fail> {
     let failing = [2, 4, 6, 8].to_vec(alloc)?;
     let mut journal = MemoryJournal::new(b"hello".to_vec(alloc)?, failing, [2, 9].to_vec(alloc)?);
 
-    assert_eq!(rt; journal.load(alloc, 2)?.as_slice(), b"hel".as_slice());
-    assert_eq!(rt; journal.append(b"123"), Err(JournalError::Failed));
+    assert_eq!(rt; load(&mut journal, alloc, 2)?.as_slice(), b"hel".as_slice());
+    assert_eq!(rt; append(&mut journal, b"123"), Err(JournalError::Failed));
     assert_eq!(rt; journal.bytes(), b"hello12".as_slice());
-    journal.append(b"x")?;
-    assert_eq!(rt; journal.append(b"yz"), Err(JournalError::Failed));
+    append(&mut journal, b"x")?;
+    assert_eq!(rt; append(&mut journal, b"yz"), Err(JournalError::Failed));
     assert_eq!(rt; journal.bytes(), b"hello12xyz".as_slice());
 
     assert!(rt; journal.bytes().len() >= 6);
@@ -79,10 +87,13 @@ fn journal_keeps_what_it_is_told_to(rt: HostRuntime) -> Result<(), Fail> {
     assert_eq!(rt; journal.bytes(), b"hello1".as_slice());
     assert!(rt; journal.bytes().len() >= 2);
     assert_eq!(rt; journal.cut(2), Err(JournalError::Failed));
-    assert_eq!(rt; journal.load(alloc, 9)?.as_slice(), b"hello1".as_slice());
+    assert_eq!(rt;
+        load(&mut journal, alloc, 9)?.as_slice(),
+        b"hello1".as_slice()
+    );
 
     // The list of what failing appends keep is at its end.
-    assert_eq!(rt; journal.append(b"w"), Err(JournalError::Failed));
+    assert_eq!(rt; append(&mut journal, b"w"), Err(JournalError::Failed));
     assert_eq!(rt; journal.bytes(), b"hello1".as_slice());
     Ok(())
 }
