@@ -23,10 +23,7 @@ pub enum Rule<'a> {
     /// No token.
     Empty,
     /// One token of the class, which has the role.
-    Word {
-        class: Class,
-        role: Role,
-    },
+    Word(Class, Role),
     /// Any tokens, with whole brackets among them, up to the comma or the closing bracket that ends them.
     Skip,
     /// The one, then the other.
@@ -35,12 +32,8 @@ pub enum Rule<'a> {
     Or(&'a Rule<'a>, &'a Rule<'a>),
     /// Any number of times, also none.
     Many(&'a Rule<'a>),
-    /// One item or more, with a token of the class `separator` between two of them, which has the role.
-    List {
-        item: &'a Rule<'a>,
-        separator: Class,
-        role: Role,
-    },
+    /// One item or more, with a token of the class, which has the role, between two of them.
+    List(&'a Rule<'a>, Class, Role),
 }
 
 impl Rule<'_> {
@@ -50,10 +43,10 @@ impl Rule<'_> {
     {
         match self {
             Rule::Empty | Rule::Skip | Rule::Many(_) => true,
-            Rule::Word { .. } => false,
+            Rule::Word(..) => false,
             Rule::Seq(first, second) => first.is_nullable() && second.is_nullable(),
             Rule::Or(one, other) => one.is_nullable() || other.is_nullable(),
-            Rule::List { item, .. } => item.is_nullable(),
+            Rule::List(item, ..) => item.is_nullable(),
         }
     }
 }

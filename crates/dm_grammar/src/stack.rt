@@ -100,7 +100,7 @@ fn advance<'a, C: Classes>(
 {
     match rule {
         Rule::Empty => Ok(None),
-        Rule::Word { class, role } => {
+        Rule::Word(class, role) => {
             if classes.contains(*class, kind) {
                 Ok(Some(*role))
             } else {
@@ -119,11 +119,9 @@ fn advance<'a, C: Classes>(
             taken => Ok(taken),
         },
         Rule::Many(repeated) => advance_before(classes, repeated, Pending::Rule(rule), kind, stack),
-        Rule::List {
-            item,
-            separator,
-            role,
-        } => advance_list(classes, item, *separator, *role, kind, stack),
+        Rule::List(item, separator, role) => advance_list(
+            classes, item, *separator, *role, kind, stack,
+        ),
     }
 }
 

@@ -30,20 +30,11 @@ const INNER_OPENING: Role = 22;
 const INNER_CLOSING: Role = 23;
 
 // `[name = number, a.b = [anything]]`: settings in brackets, of which `include` is not supported.
-const FIRST_NAME: Rule<'static> = Rule::Word {
-    class: NAME,
-    role: SETTING,
-};
+const FIRST_NAME: Rule<'static> = Rule::Word(NAME, SETTING);
 
-const DOTTED: Rule<'static> = Rule::Word {
-    class: DOT,
-    role: DOT,
-};
+const DOTTED: Rule<'static> = Rule::Word(DOT, DOT);
 
-const NEXT_NAME: Rule<'static> = Rule::Word {
-    class: NAME,
-    role: PART,
-};
+const NEXT_NAME: Rule<'static> = Rule::Word(NAME, PART);
 
 const PART_BEHIND: Rule<'static> = Rule::Seq(&DOTTED, &NEXT_NAME);
 
@@ -51,25 +42,13 @@ const PARTS: Rule<'static> = Rule::Many(&PART_BEHIND);
 
 const PATH: Rule<'static> = Rule::Seq(&FIRST_NAME, &PARTS);
 
-const IS: Rule<'static> = Rule::Word {
-    class: EQUALS,
-    role: EQUALS,
-};
+const IS: Rule<'static> = Rule::Word(EQUALS, EQUALS);
 
-const PLAIN: Rule<'static> = Rule::Word {
-    class: NUMBER,
-    role: NUMBER,
-};
+const PLAIN: Rule<'static> = Rule::Word(NUMBER, NUMBER);
 
-const INNER_OPEN: Rule<'static> = Rule::Word {
-    class: OPENING,
-    role: INNER_OPENING,
-};
+const INNER_OPEN: Rule<'static> = Rule::Word(OPENING, INNER_OPENING);
 
-const INNER_CLOSE: Rule<'static> = Rule::Word {
-    class: CLOSING,
-    role: INNER_CLOSING,
-};
+const INNER_CLOSE: Rule<'static> = Rule::Word(CLOSING, INNER_CLOSING);
 
 const ANYTHING: Rule<'static> = Rule::Skip;
 
@@ -83,32 +62,19 @@ const ASSIGNED: Rule<'static> = Rule::Seq(&IS, &VALUE);
 
 const ASSIGNMENT: Rule<'static> = Rule::Seq(&PATH, &ASSIGNED);
 
-const INCLUDED: Rule<'static> = Rule::Word {
-    class: INCLUDE,
-    role: UNSUPPORTED,
-};
+const INCLUDED: Rule<'static> = Rule::Word(INCLUDE, UNSUPPORTED);
 
 const ITEM: Rule<'static> = Rule::Or(&ASSIGNMENT, &INCLUDED);
 
-const ITEMS: Rule<'static> = Rule::List {
-    item: &ITEM,
-    separator: COMMA,
-    role: COMMA,
-};
+const ITEMS: Rule<'static> = Rule::List(&ITEM, COMMA, COMMA);
 
 const NONE: Rule<'static> = Rule::Empty;
 
 const CONTENT: Rule<'static> = Rule::Or(&ITEMS, &NONE);
 
-const OPEN: Rule<'static> = Rule::Word {
-    class: OPENING,
-    role: OPENING,
-};
+const OPEN: Rule<'static> = Rule::Word(OPENING, OPENING);
 
-const CLOSE: Rule<'static> = Rule::Word {
-    class: CLOSING,
-    role: CLOSING,
-};
+const CLOSE: Rule<'static> = Rule::Word(CLOSING, CLOSING);
 
 const CLOSED: Rule<'static> = Rule::Seq(&CONTENT, &CLOSE);
 
