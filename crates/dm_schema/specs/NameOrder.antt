@@ -1,7 +1,6 @@
 -- Things that have names, in byte order of the names.
-use Rattle.std.specs.Prelude.{ℕ, List, [], ◌∷◌, map, if◌then◌else◌}
+use Rattle.std.specs.Prelude.{List, [], ◌∷◌, if◌then◌else◌}
 use Rattle.std.specs.Ordering.{is_lt}
-use Rattle.std.specs.List.{zip}
 use Rattle.dm_schema.specs.declared.column.Column.{Column}
 use Rattle.dm_schema.specs.declared.column.UniqueKey.{UniqueKey}
 use Rattle.dm_schema.specs.Names.{Text, name_cmp}
@@ -21,7 +20,3 @@ columns_in_order columns = in_order_of (λ c. c.name) columns
 
 abbrev pub uniques_in_order : List UniqueKey → List UniqueKey
 uniques_in_order keys = in_order_of (λ k. k.name) keys
-
--- what stands under the names, in byte order of the names
-abbrev pub by_name : {A : Type 0} → List Text → List A → List A
-by_name names xs = map (λ p. p.1) (in_order_of (λ p. p.0) (zip names xs))

@@ -17,7 +17,7 @@ pub use fault::{EffectFault, SchemaFault};
 pub use fitting::fits;
 pub use named::{Named, in_name_order};
 pub use row_change::{KeyValue, RowChange};
-pub use rows::key_of;
+pub use rows::{key_of, values_at};
 pub use schema::Schema;
 pub use table_name::TableName;
 

@@ -16,7 +16,8 @@ pub fn key_of(alloc: Global, schema: &Schema, row: &Row) -> Result<Row, AllocErr
     Ok(Row::new(values))
 }
 
-fn values_at(
+/// The values of a row in the columns of these names. Where there is no such column, or the row is too short, NULL.
+pub fn values_at(
     alloc: Global,
     columns: &[Column],
     row: &[Value],

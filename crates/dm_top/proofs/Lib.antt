@@ -1,0 +1,4 @@
+mod Entries
+mod Merging
+mod Fronts
+mod Gathering
