@@ -4,6 +4,8 @@
 mod faults;
 mod kind_text;
 mod status;
+#[cfg(test)]
+mod tests;
 mod text;
 mod value_text;
 
