@@ -1,5 +1,4 @@
-ghost use Rattle.std.specs.Prelude.{◌≡◌, [], ◌∷◌, ◌++◌, codes, OnOk};
-ghost use Rattle.std.specs.Fmt.{decimal};
+ghost use Rattle.std.specs.Prelude.{◌≡◌, ◌++◌, OnOk};
 ghost use Rattle.dm_report.specs.Texts.{integer_text, prefix_text, in_brackets, fraction_text, kind_text};
 
 use dm_schema::Kind;
@@ -11,14 +10,14 @@ pub fn push_kind(alloc: Global, out: &mut Vec<u8>, kind: Kind) -> Result<(), All
 {
     match kind {
         Kind::Signed(size) => out.extend_from_slice(integer_text(size)),
-        Kind::Unsigned(size) => push_words(out, integer_text(size), b" UNSIGNED"),
+        Kind::Unsigned(size) => push_both(out, integer_text(size), b" UNSIGNED"),
         Kind::Decimal(precision, scale) => push_decimal(alloc, out, precision, scale),
         Kind::Char(most) => push_sized(alloc, out, b"CHAR", most),
         Kind::Varchar(most) => push_sized(alloc, out, b"VARCHAR", most),
-        Kind::Text(prefix) => push_words(out, prefix_text(prefix), b"TEXT"),
+        Kind::Text(prefix) => push_both(out, prefix_text(prefix), b"TEXT"),
         Kind::Binary(size) => push_sized(alloc, out, b"BINARY", size),
         Kind::Varbinary(most) => push_sized(alloc, out, b"VARBINARY", most),
-        Kind::Blob(prefix) => push_words(out, prefix_text(prefix), b"BLOB"),
+        Kind::Blob(prefix) => push_both(out, prefix_text(prefix), b"BLOB"),
         Kind::Date => out.extend_from_slice(b"DATE"),
         Kind::Year => out.extend_from_slice(b"YEAR"),
         Kind::Datetime(digits) => push_fractional(alloc, out, b"DATETIME", digits),
@@ -51,8 +50,7 @@ fn prefix_text(size: u8) -> &'static [u8]
     }
 }
 
-/// Adds two pieces, one after the other.
-fn push_words(out: &mut Vec<u8>, first: &[u8], second: &[u8]) -> Result<(), AllocError>
+fn push_both(out: &mut Vec<u8>, first: &[u8], second: &[u8]) -> Result<(), AllocError>
     ensures { OnOk result (out.new.items ≡ out.old.items ++ (first.now ++ second.now)) }
 {
     out.extend_from_slice(first)?;
@@ -65,7 +63,8 @@ fn push_decimal(
     precision: u8,
     scale: u8,
 ) -> Result<(), AllocError>
-    ensures { OnOk result (out.new.items ≡ out.old.items ++ (codes "DECIMAL(" ++ decimal precision ++ 44 ∷ decimal scale ++ 41 ∷ [])) }
+    ensures { OnOk result
+        (out.new.items ≡ out.old.items ++ kind_text (Kind.Decimal precision scale)) }
 {
     let precision = precision.to_string(alloc)?;
     let scale = scale.to_string(alloc)?;

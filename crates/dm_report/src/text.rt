@@ -10,7 +10,7 @@ use dm_value::{Name, Value};
 use std::alloc::{AllocError, Global};
 
 /// Adds the lines of columns, of the primary key, and of the number of rows. Columns stand in the order in which
-/// they are to be printed.
+/// they are to be printed. Where memory runs out, a part of the text may have been added.
 pub fn push_head(
     alloc: Global,
     out: &mut Vec<u8>,
@@ -18,14 +18,16 @@ pub fn push_head(
     primary: &[Name],
     count: u64,
 ) -> Result<(), AllocError>
-    ensures { OnOk result (out.new.items ≡ out.old.items ++ head_text columns.now primary.now count) }
+    ensures { OnOk result
+        (out.new.items ≡ out.old.items ++ head_text columns.now primary.now count) }
 {
     push_columns(alloc, out, columns)?;
     push_primary(out, primary)?;
     push_count(alloc, out, count)
 }
 
-/// Adds the line of a row. Values stand in the order in which they are to be printed.
+/// Adds the line of a row. Values stand in the order in which they are to be printed. Where memory runs out, a part
+/// of the line may have been added.
 pub fn push_row(alloc: Global, out: &mut Vec<u8>, row: &[Value]) -> Result<(), AllocError>
     ensures { OnOk result (out.new.items ≡ out.old.items ++ row_line row.now) }
 {
@@ -66,7 +68,8 @@ fn push_nullable(out: &mut Vec<u8>, nullable: bool) -> Result<(), AllocError>
 }
 
 fn push_primary(out: &mut Vec<u8>, names: &[Name]) -> Result<(), AllocError>
-    ensures { OnOk result (out.new.items ≡ out.old.items ++ (codes "primary " ++ name_list names.now ++ 10 ∷ [])) }
+    ensures { OnOk result
+        (out.new.items ≡ out.old.items ++ (codes "primary " ++ name_list names.now ++ 10 ∷ [])) }
 {
     out.extend_from_slice(b"primary (")?;
     push_names(out, names)?;
@@ -74,7 +77,8 @@ fn push_primary(out: &mut Vec<u8>, names: &[Name]) -> Result<(), AllocError>
 }
 
 fn push_count(alloc: Global, out: &mut Vec<u8>, count: u64) -> Result<(), AllocError>
-    ensures { OnOk result (out.new.items ≡ out.old.items ++ (codes "rows " ++ decimal count ++ 10 ∷ [])) }
+    ensures { OnOk result
+        (out.new.items ≡ out.old.items ++ (codes "rows " ++ decimal count ++ 10 ∷ [])) }
 {
     let digits = count.to_string(alloc)?;
     out.extend_from_slice(b"rows ")?;
@@ -98,7 +102,8 @@ fn push_names(out: &mut Vec<u8>, names: &[Name]) -> Result<(), AllocError>
 
 /// Adds names in backquotes, each after a comma.
 fn push_further_names(out: &mut Vec<u8>, names: &[Name]) -> Result<(), AllocError>
-    ensures { OnOk result (out.new.items ≡ out.old.items ++ flat_map (λ n. 44 ∷ quoted n) names.now) }
+    ensures { OnOk result
+        (out.new.items ≡ out.old.items ++ flat_map (λ n. 44 ∷ quoted n) names.now) }
 {
     for name in names {
         out.push(b',')?;

@@ -1,4 +1,4 @@
-ghost use Rattle.std.specs.Prelude.{◌≡◌, [], ◌∷◌, ◌++◌, map, OnOk};
+ghost use Rattle.std.specs.Prelude.{◌≡◌, ◌∷◌, ◌++◌, map, OnOk};
 ghost use Rattle.std.specs.List.{flat_map};
 ghost use Rattle.std.specs.Fmt.{signed_decimal};
 ghost use Rattle.dm_report.specs.Texts.{escaped, value_text, with_commas};
@@ -8,7 +8,8 @@ use std::alloc::{AllocError, Global};
 
 /// Adds values with commas between them.
 pub fn push_values(alloc: Global, out: &mut Vec<u8>, values: &[Value]) -> Result<(), AllocError>
-    ensures { OnOk result (out.new.items ≡ out.old.items ++ with_commas (map value_text values.now)) }
+    ensures { OnOk result
+        (out.new.items ≡ out.old.items ++ with_commas (map value_text values.now)) }
 {
     match values {
         [] => Ok(()),
@@ -21,7 +22,8 @@ pub fn push_values(alloc: Global, out: &mut Vec<u8>, values: &[Value]) -> Result
 
 /// Adds values, each after a comma.
 fn push_further_values(alloc: Global, out: &mut Vec<u8>, values: &[Value]) -> Result<(), AllocError>
-    ensures { OnOk result (out.new.items ≡ out.old.items ++ flat_map (λ v. 44 ∷ value_text v) values.now) }
+    ensures { OnOk result
+        (out.new.items ≡ out.old.items ++ flat_map (λ v. 44 ∷ value_text v) values.now) }
 {
     for value in values {
         out.push(b',')?;
@@ -49,9 +51,9 @@ fn push_integer(alloc: Global, out: &mut Vec<u8>, number: i128) -> Result<(), Al
     out.extend_from_slice(text.as_bytes())
 }
 
-/// Adds bytes in single quotes.
+/// Adds a string in single quotes.
 fn push_string(out: &mut Vec<u8>, bytes: &[u8]) -> Result<(), AllocError>
-    ensures { OnOk result (out.new.items ≡ out.old.items ++ (39 ∷ flat_map escaped bytes.now ++ 39 ∷ [])) }
+    ensures { OnOk result (out.new.items ≡ out.old.items ++ value_text (Value.Bytes bytes.now)) }
 {
     out.push(b'\'')?;
     push_all_escaped(out, bytes)?;
