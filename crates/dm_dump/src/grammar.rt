@@ -47,10 +47,7 @@ macro_rules! all_of {
 
 macro_rules! byte {
     ($class:expr, $role:expr) => {
-        Rule::Word {
-            class: $class,
-            role: $role,
-        }
+        Rule::Word($class, $role)
     };
 }
 

@@ -1,0 +1,14 @@
+//! What the program prints and how it ends: the text of a table, fault lines, statuses.
+#![tactic(auto)]
+
+mod faults;
+mod kind_text;
+mod status;
+#[cfg(test)]
+mod tests;
+mod text;
+mod value_text;
+
+pub use faults::fault_line;
+pub use status::Status;
+pub use text::{push_head, push_row};
