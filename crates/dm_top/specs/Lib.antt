@@ -1,3 +1,4 @@
 pub mod Load
 pub mod Merge
 pub mod Reading
+pub mod Words

@@ -1,13 +1,15 @@
 -- How the rows of dumps are merged, one after another. `Load` says what comes of it.
-use Rattle.std.specs.Prelude.{◌≡◌, ℕ, Bool, true, false, List, [], ◌∷◌, ◌++◌, map, Option, Some, None, Result, Ok, Err, slice_get, if◌then◌else◌}
+use Rattle.std.specs.Prelude.{◌≡◌, ℕ, Bool, true, false, List, [], ◌∷◌, ◌++◌, map, length, Option, Some, None, Result, Ok, Err, slice_get, if◌then◌else◌}
 use Rattle.std.specs.Option.{option_map, ForSome}
 use Rattle.std.specs.FinMap as fin
-use Rattle.std.specs.BTreeMap.{insert_entry}
+use Rattle.std.specs.BTreeMap.{BTreeMap, insert_entry, values}
 use Rattle.std.specs.List.{list_any}
 use Rattle.dm_value.specs.Order.{row_cmp}
 use Rattle.dm_schema.specs.Layout.{Layout}
 use Rattle.dm_dump.specs.declared.dump.Dump.{Dump}
 use Rattle.dm_schema.specs.Names.{Text}
+use Rattle.dm_schema.specs.NameOrder.{columns_in_order}
+use Rattle.dm_report.specs.Texts.{table_text}
 use Rattle.dm_schema.specs.Schemas.{schema_equal}
 use Rattle.dm_dump.specs.PlainDump.{IsPlainDump}
 use Rattle.dm_top.specs.declared.files.NamedFile.{NamedFile}
@@ -56,3 +58,8 @@ MergesFiles files (Err fault.Memory) = Unit {0}
 -- files, each as its name and its bytes
 abbrev pub named_texts : List NamedFile → List (Text × Text)
 named_texts files = map (λ f. (f.name, f.bytes.items)) files
+
+-- the text of what was merged
+abbrev pub text_of : Option Layout → BTreeMap Row Row → List ℕ
+text_of None rows = []
+text_of (Some schema) rows = table_text (columns_in_order schema.columns) schema.primary (values rows) (length (values rows))

@@ -4,3 +4,5 @@
 mod files;
 mod merge;
 mod rows;
+mod text;
+mod words;
