@@ -2,3 +2,4 @@ mod Entries
 mod Merging
 mod Fronts
 mod Gathering
+mod Whole

@@ -1,4 +1,5 @@
 pub mod Load
 pub mod Merge
 pub mod Reading
+pub mod Top
 pub mod Words

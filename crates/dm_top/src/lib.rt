@@ -2,7 +2,12 @@
 #![tactic(auto)]
 
 mod files;
+mod load;
 mod merge;
+mod plain;
 mod rows;
 mod text;
 mod words;
+
+pub use dm_report::Status;
+pub use plain::dm_plain;
