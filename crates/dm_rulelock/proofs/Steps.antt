@@ -1,5 +1,5 @@
 -- Each step of a lock keeps its rule, and tells what its call promises.
-use Rattle.std.proofs.Common.{◌≡◌, ◌≢◌, ◌⊎◌, ℕ, ◌<◌, ◌≤◌, eqb, List, [], ◌∷◌, ◌++◌, length, get_or, set, Option, Some, None, sym, refl, ap, ◌∙◌, subst, inl, inr, ⊎_elim, arith, length-set, get_or-set_same}
+use Rattle.std.proofs.Common.{◌≡◌, ◌≢◌, ℕ, ◌<◌, ◌≤◌, eqb, List, [], ◌∷◌, ◌++◌, length, get_or, set, Option, Some, None, sym, refl, ap, ◌∙◌, subst, inl, inr, ⊎_elim, arith, length-set, get_or-set_same}
 use Rattle.std.specs.Prelude.{unwrap_or}
 use mathlib.Core.Option.{some, none}
 use lib.ListN.{get_elem?}
@@ -140,7 +140,7 @@ module _ {T I : Type 0} (inputs : T → I) (positions : T → List ℕ) (over : 
       let left : View I = after_split v in
       let right : View I = split_off v in
       let both : (F : ℕ → View I → Type 0) → F id left → ((seat : ℕ) → F seat right) → EachView F s.views → EachView F (set s.views id left ++ right ∷ []) =
-        λ F stays leaves old. EachView-snoc F (set s.views id left) right (EachView-set_one F s.views id left stays old) leaves in record {
+      λ F stays leaves old. EachView-snoc F (set s.views id left) right (EachView-set_one F s.views id left stays old) leaves in record {
         one_word = rule.one_word;
         all_callers = total_callers-split s.views id v at two ∙ rule.all_callers;
         belongs = both (IsOver over) (inr (omega arith, mine)) (λ _. inr (omega arith, mine)) rule.belongs;
@@ -172,7 +172,7 @@ module _ {T I : Type 0} (inputs : T → I) (positions : T → List ℕ) (over : 
       let views : List (View I) = set s.views id joined in
       let was : get_elem? s.views other ≡ some w = sym (set_else s.views id other joined apart) ∙ there in
       let both : (F : ℕ → View I → Type 0) → F id joined → F other spent → EachView F s.views → EachView F (set views other spent) =
-        λ F stays ends old. EachView-set_one F views other spent ends (EachView-set_one F s.views id joined stays old) in record {
+      λ F stays ends old. EachView-set_one F views other spent ends (EachView-set_one F s.views id joined stays old) in record {
         one_word = rule.one_word;
         all_callers = total_callers-join s.views id v at other w there ∙ rule.all_callers;
         belongs = both (IsOver over) (inr (omega arith, mine)) (inl refl) rule.belongs;

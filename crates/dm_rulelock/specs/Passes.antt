@@ -18,8 +18,8 @@ module _ {V I : Type 0} {k : _} where
   IsPassOf lock pass = pass.seat.table_id ≡ lock.table.shared.table_id
 
   -- both are passes of one lock
-  abbrev pub IsSamePass : Pass V I k → Pass V I k → Type 0
-  IsSamePass old new = new.seat.table_id ≡ old.seat.table_id
+  abbrev pub IsOfSameLock : Pass V I k → Pass V I k → Type 0
+  IsOfSameLock old new = new.seat.table_id ≡ old.seat.table_id
 
 -- the number of callers that the lock was made for
 abbrev pub callers_of : {V I : Type 0} → RuleLock V I → ℕ

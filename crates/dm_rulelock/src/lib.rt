@@ -15,3 +15,4 @@ mod view;
 pub use kept::Kept;
 pub use lock::RuleLock;
 pub use pass::Pass;
+pub use view::View;

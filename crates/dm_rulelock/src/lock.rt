@@ -2,8 +2,8 @@ ghost use Rattle.std.specs.Prelude.{◌≡◌};
 
 use crate::kept::Kept;
 use crate::pass::Pass;
-use crate::rule::{Callers, Give, LockRule, Take};
-use crate::view::{Origin, View};
+use crate::rule::{Callers, Give, LockRule, Origin, Take};
+use crate::view::View;
 use atomic_table::{Refused, Table};
 use std::alloc::{AllocError, Global};
 use std::snapshot::Snapshot;
@@ -11,6 +11,7 @@ use std::sync::Wait;
 
 // The word of a lock while the value is at home, and while a pass has taken it.
 const FREE: u64 = 0;
+
 const TAKEN: u64 = 1;
 
 /// A lock that keeps one value, for callers whose number is fixed when it is made.
@@ -25,7 +26,7 @@ impl<V: Kept> RuleLock<V> {
     ghost use Rattle.std.specs.Option.{ForSome};
     ghost use Rattle.dm_rulelock.specs.Positions.{AtMost};
     ghost use Rattle.dm_rulelock.specs.Views.{first_view, after_take, after_give, after_split, split_off, after_join};
-    ghost use Rattle.dm_rulelock.specs.Passes.{view, IsPassOf, IsSamePass, callers_of, HasNotTaken};
+    ghost use Rattle.dm_rulelock.specs.Passes.{view, IsPassOf, IsOfSameLock, callers_of, HasNotTaken};
 
     /// A lock that keeps the value, and its first pass, which stands for all callers. This is the only call that
     /// takes memory. Without memory the value comes back.
@@ -68,7 +69,7 @@ impl<V: Kept> RuleLock<V> {
         requires free { HasNotTaken pass.old }
         ensures inputs { (view pass.old).inputs ≡ Some (V.inputs result) }
         ensures positions { AtMost (view pass.old).seen (V.positions result) }
-        ensures same { IsSamePass pass.old pass.new }
+        ensures same { IsOfSameLock pass.old pass.new }
         ensures pass { view pass.new ≡ after_take (view pass.old) (V.positions result) }
     {
         let shared = &self.table.shared;
@@ -88,7 +89,7 @@ impl<V: Kept> RuleLock<V> {
         requires taken { IsSome (view pass.old).taken }
         requires inputs { (view pass.old).inputs ≡ Some (V.inputs value) }
         requires positions { ForSome (view pass.old).taken (λ taken. AtMost taken (V.positions value)) }
-        ensures same { IsSamePass pass.old pass.new }
+        ensures same { IsOfSameLock pass.old pass.new }
         ensures pass { view pass.new ≡ after_give (view pass.old) (V.positions value) }
     {
         let shared = &self.table.shared;
@@ -103,7 +104,7 @@ impl<V: Kept> RuleLock<V> {
         requires own { IsPassOf self.now pass.old }
         requires free { HasNotTaken pass.old }
         requires callers { 2 ≤ (view pass.old).callers }
-        ensures same { IsSamePass pass.old pass.new }
+        ensures same { IsOfSameLock pass.old pass.new }
         ensures pass { view pass.new ≡ after_split (view pass.old) }
         ensures own { IsPassOf self.now result }
         ensures split_off { view result ≡ split_off (view pass.old) }
@@ -119,7 +120,7 @@ impl<V: Kept> RuleLock<V> {
         requires free { HasNotTaken pass.old }
         requires other_own { IsPassOf self.now other }
         requires other_free { HasNotTaken other }
-        ensures same { IsSamePass pass.old pass.new }
+        ensures same { IsOfSameLock pass.old pass.new }
         ensures pass { view pass.new ≡ after_join (view pass.old) (view other) }
     {
         let Pass { seat } = other;

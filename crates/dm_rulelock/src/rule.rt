@@ -3,11 +3,20 @@ ghost use Rattle.dm_rulelock.specs.Views.{first_view, spent, after_split, split_
 ghost use Rattle.dm_rulelock.specs.Rule.{KeepsRule, TriesToTake, GivesBack};
 
 use crate::kept::Kept;
-use crate::view::{Origin, View};
+use crate::view::View;
 use atomic_table::{Join, Play, Split, TableRule};
 use std::marker::PhantomData;
+use std::snapshot::Snapshot;
 
-pub struct LockRule<V> {
+/// What a lock was made of. It never changes.
+#[derive(Drop)]
+pub(crate) struct Origin<V> {
+    pub(crate) value: Snapshot<V>,
+    pub(crate) callers: u32,
+}
+
+/// What holds between any two steps, of whatever passes.
+pub(crate) struct LockRule<V> {
     kept: PhantomData<V>,
 }
 
@@ -17,7 +26,8 @@ impl<V: Kept> TableRule<Option<V>, View<V::Inputs>, Origin<V>> for LockRule<V> {
     ghost first = { λ origin. first_view (V.inputs origin.value.value) (V.positions origin.value.value) origin.callers };
 }
 
-pub struct Take<V> {
+/// The step of a pass that tries to take.
+pub(crate) struct Take<V> {
     kept: PhantomData<V>,
 }
 
@@ -25,7 +35,8 @@ impl<V: Kept> Play<Option<V>, View<V::Inputs>> for Take<V> {
     ghost then = { TriesToTake V.inputs V.positions };
 }
 
-pub struct Give<V> {
+/// The step of a pass that gives back.
+pub(crate) struct Give<V> {
     kept: PhantomData<V>,
 }
 
@@ -34,7 +45,7 @@ impl<V: Kept> Play<Option<V>, View<V::Inputs>> for Give<V> {
 }
 
 /// How the callers of a pass are split off, and joined again.
-pub struct Callers;
+pub(crate) struct Callers;
 
 impl<I> Split<View<I>> for Callers {
     ghost left = { after_split };

@@ -1,5 +1,3 @@
-use std::snapshot::Snapshot;
-
 /// What a pass knows. No value of this type is made, and clauses read each array as a list of any length.
 pub struct View<I> {
     /// The lock's inputs. Only the view of a pass that was joined into another has none.
@@ -10,11 +8,4 @@ pub struct View<I> {
     pub seen: [u64; 0],
     /// The positions of the value that this pass has taken, if it has taken one.
     pub taken: Option<[u64; 0]>,
-}
-
-/// What a lock was made of.
-#[derive(Drop)]
-pub struct Origin<V> {
-    pub value: Snapshot<V>,
-    pub callers: u32,
 }

@@ -3,7 +3,7 @@
 ghost use Rattle.std.specs.Prelude.{◌≡◌, ◌≤◌, ◌-◌, ◌∷◌, [], IfOk};
 ghost use Rattle.std.specs.Thread.{IsSync};
 ghost use Rattle.dm_rulelock.specs.Positions.{AtMost};
-ghost use Rattle.dm_rulelock.specs.Passes.{view, IsPassOf, IsSamePass, IsLater, HasNotTaken};
+ghost use Rattle.dm_rulelock.specs.Passes.{view, IsPassOf, IsOfSameLock, IsLater, HasNotTaken};
 
 use crate::{Kept, Pass, RuleLock};
 use std::alloc::{AllocError, Global};
@@ -35,8 +35,7 @@ impl<'a, S: Sink> Kept for Job<'a, S> {
 impl<'a, S: Sink> Job<'a, S> {
     fn draw(&mut self) -> Option<u64>
         ensures numbers { self.new.numbers.now ≡ self.old.numbers.now }
-        ensures drawn { self.old.drawn ≤ self.new.drawn }
-        ensures done { self.new.done ≡ self.old.done }
+        ensures positions { AtMost (self.old.drawn ∷ self.old.done ∷ []) (self.new.drawn ∷ self.new.done ∷ []) }
     {
         let number = *self.numbers.get(self.drawn)?;
         self.drawn += 1;
@@ -45,8 +44,7 @@ impl<'a, S: Sink> Job<'a, S> {
 
     fn put(&mut self, square: u64)
         ensures numbers { self.new.numbers.now ≡ self.old.numbers.now }
-        ensures drawn { self.new.drawn ≡ self.old.drawn }
-        ensures done { self.old.done ≤ self.new.done }
+        ensures positions { AtMost (self.old.drawn ∷ self.old.done ∷ []) (self.new.drawn ∷ self.new.done ∷ []) }
     {
         self.sink.put(square);
         self.done = self.done.saturating_add(1);
@@ -69,7 +67,7 @@ fn turn<'a, S: Sink, R: Wait>(
 ) -> bool
     requires own { IsPassOf lock.now pass.old }
     requires free { HasNotTaken pass.old }
-    ensures same { IsSamePass pass.old pass.new }
+    ensures same { IsOfSameLock pass.old pass.new }
     ensures free { HasNotTaken pass.new }
     ensures later { IsLater (view pass.old) (view pass.new) }
 {
@@ -152,8 +150,7 @@ fn run<'a, S: Sink + Send, R: Threads + Wait + Sync>(
     requires some { 1 ≤ workers }
     requires most { workers ≤ 32 }
     ensures numbers { IfOk result (λ ended. ended.numbers.now ≡ job.entry.numbers.now) }
-    ensures drawn { IfOk result (λ ended. job.entry.drawn ≤ ended.drawn) }
-    ensures done { IfOk result (λ ended. job.entry.done ≤ ended.done) }
+    ensures positions { IfOk result (λ ended. AtMost (job.entry.drawn ∷ job.entry.done ∷ []) (ended.drawn ∷ ended.done ∷ [])) }
 {
     let (lock, pass) = RuleLock::new(alloc, job, workers).map_err(|refused| refused.1)?;
     let hand = Hand { lock: &lock, pass };
