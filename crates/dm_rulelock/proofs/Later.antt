@@ -18,7 +18,12 @@ module _ {I : Type 0} where
   }
 
   -- a value was taken and given back, as far or further
-  pub IsLater-turn : (u v w : View I) (took gave : List ℕ) → AtMost u.seen took → AtMost took gave → v ≡ after_take u took → w ≡ after_give v gave → IsLater u w
+  pub IsLater-turn : (u v w : View I) (took gave : List ℕ)
+      → AtMost u.seen took
+      → AtMost took gave
+      → v ≡ after_take u took
+      → w ≡ after_give v gave
+      → IsLater u w
   IsLater-turn u v w took gave up further taken given = record {
     callers = ap (λ (x : View I). x.callers) given ∙ ap (λ (x : View I). x.callers) taken;
     inputs = ap (λ (x : View I). x.inputs) given ∙ ap (λ (x : View I). x.inputs) taken;
@@ -26,12 +31,18 @@ module _ {I : Type 0} where
   }
 
   -- a pass was split, and the two, some calls later, were joined
-  pub IsLater-join : (u v w x : View I) → 2 ≤ u.callers → IsLater (after_split u) v → IsLater (split_off u) w → x ≡ after_join v w → IsLater u x
+  pub IsLater-join : (u v w x : View I)
+      → 2 ≤ u.callers
+      → IsLater (after_split u) v
+      → IsLater (split_off u) w
+      → x ≡ after_join v w
+      → IsLater u x
   IsLater-join u v w x two first second joined =
       let stayed = first.callers in
       let left = second.callers in
       let both = ap (λ (y : View I). y.callers) joined in record {
         callers = omega arith;
         inputs = ap (λ (y : View I). y.inputs) joined ∙ first.inputs;
-        seen = subst (AtMost u.seen) (sym (ap (λ (y : View I). y.seen) joined)) (AtMost-trans u.seen v.seen (greater v.seen w.seen) first.seen (AtMost-greater v.seen w.seen));
+        seen = subst (AtMost u.seen) (sym (ap (λ (y : View I). y.seen) joined))
+            (AtMost-trans u.seen v.seen (greater v.seen w.seen) first.seen (AtMost-greater v.seen w.seen));
       }

@@ -5,7 +5,7 @@ use lib.ListN.{get_elem?}
 use Rattle.atomic_table.specs.Table.{State}
 use Rattle.dm_rulelock.specs.declared.view.View.{View}
 use Rattle.dm_rulelock.specs.Views.{spent, after_split, split_off, after_join}
-use Rattle.dm_rulelock.specs.Rule.{total_callers, IsOver, IsTaken}
+use Rattle.dm_rulelock.specs.Rule.{total_callers, FitsLock, IsTaken}
 use Rattle.dm_rulelock.proofs.Views.{total_callers-set, total_callers-snoc}
 
 pub Some-ne-None : {A : Type 0} {a : A} {o : Option A} → o ≡ Some a → o ≡ None → ⊥
@@ -19,7 +19,7 @@ some_of (Some a) is = (a, refl)
 some_of None is = absurd (cc)
 
 -- a seat with a caller has the lock's inputs
-pub inputs_of : {I : Type 0} (over : I) (seat : ℕ) (v : View I) → IsOver over seat v → 0 < v.callers → v.inputs ≡ Some over
+pub inputs_of : {I : Type 0} (over : I) (seat : ℕ) (v : View I) → FitsLock over seat v → 0 < v.callers → v.inputs ≡ Some over
 inputs_of over seat v belongs live = ⊎_elim
     (λ (is_spent : v ≡ spent). let none_left : v.callers ≡ 0 = ap (λ (u : View _). u.callers) is_spent in absurd (omega arith))
     (λ both. both.1)
@@ -52,7 +52,8 @@ module _ {I : Type 0} (views : List (View I)) (id : ℕ) (v : View I) (at : get_
       let changed = total_callers-set views id v (after_split v) at in
       omega arith
 
-  pub total_callers-join : (other : ℕ) (w : View I) → get_elem? (set views id (after_join v w)) other ≡ some w → total_callers (set (set views id (after_join v w)) other spent) ≡ total_callers views
+  pub total_callers-join : (other : ℕ) (w : View I)
+      → get_elem? (set views id (after_join v w)) other ≡ some w → total_callers (set (set views id (after_join v w)) other spent) ≡ total_callers views
   total_callers-join other w there =
       let taken_in = total_callers-set views id v (after_join v w) at in
       let left = total_callers-set (set views id (after_join v w)) other w spent there in

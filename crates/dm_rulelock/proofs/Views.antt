@@ -17,7 +17,8 @@ module _ {I : Type 0} where
       → ((seat : ℕ) (u : View I) → seat ≢ id → get_elem? views seat ≡ some u → F seat u)
       → EachView F (set views id v)
   EachView-set F views id v mine others seat u at = ⊎_elim
-      (λ (same : (seat ≡ id) × (v ≡ u)). subst (λ (pair : ℕ × View I). F pair.0 pair.1) (λ k. (sym same.0 k, same.1 k)) mine)
+      (λ (same : (seat ≡ id) × (v ≡ u)).
+      subst (λ (pair : ℕ × View I). F pair.0 pair.1) (λ k. (sym same.0 k, same.1 k)) mine)
       (λ (other : (seat ≢ id) × (get_elem? views seat ≡ some u)). others seat u other.0 other.1)
       (at_set views id seat v u at)
 
@@ -25,7 +26,8 @@ module _ {I : Type 0} where
   pub EachView-set_one : (F : ℕ → View I → Type 0) (views : List (View I)) (id : ℕ) (v : View I) → F id v → EachView F views → EachView F (set views id v)
   EachView-set_one F views id v mine old = EachView-set F views id v mine (λ seat u _ at. old seat u at)
 
-  pub EachView-snoc : (F : ℕ → View I → Type 0) (views : List (View I)) (v : View I) → EachView F views → ((seat : ℕ) → F seat v) → EachView F (views ++ v ∷ [])
+  pub EachView-snoc : (F : ℕ → View I → Type 0) (views : List (View I)) (v : View I)
+      → EachView F views → ((seat : ℕ) → F seat v) → EachView F (views ++ v ∷ [])
   EachView-snoc F views v old new seat u at = ⊎_elim (old seat u) (λ (same : v ≡ u). subst (F seat) same (new seat)) (at_snoc views v u seat at)
 
   pub get_elem?-set : (views : List (View I)) (id : ℕ) (v w : View I) → get_elem? views id ≡ some v → get_elem? (set views id w) id ≡ some w
@@ -36,7 +38,8 @@ module _ {I : Type 0} where
   callers_at : (x v : View I) → some x ≡ some v → x.callers ≡ v.callers
   callers_at x v at = ap (λ (u : View I). u.callers) (some-injective x v at)
 
-  pub total_callers-set : (views : List (View I)) (id : ℕ) (v w : View I) → get_elem? views id ≡ some v → total_callers (set views id w) + v.callers ≡ total_callers views + w.callers
+  pub total_callers-set : (views : List (View I)) (id : ℕ) (v w : View I)
+      → get_elem? views id ≡ some v → total_callers (set views id w) + v.callers ≡ total_callers views + w.callers
   total_callers-set [] id v w at = absurd (some-ne-none v (sym at))
   total_callers-set (x ∷ xs) zero v w at = let same = callers_at x v at in omega arith
   total_callers-set (x ∷ xs) (suc id) v w at = let rest = total_callers-set xs id v w at in omega arith
@@ -51,7 +54,11 @@ module _ {I : Type 0} where
   one_in_total (x ∷ xs) (suc id) v at = let rest = one_in_total xs id v at in omega arith
 
   -- two seats have no more callers than all
-  pub two_in_total : (views : List (View I)) (i j : ℕ) (v w : View I) → i ≢ j → get_elem? views i ≡ some v → get_elem? views j ≡ some w → v.callers + w.callers ≤ total_callers views
+  pub two_in_total : (views : List (View I)) (i j : ℕ) (v w : View I)
+      → i ≢ j
+      → get_elem? views i ≡ some v
+      → get_elem? views j ≡ some w
+      → v.callers + w.callers ≤ total_callers views
   two_in_total [] i j v w apart at there = absurd (some-ne-none v (sym at))
   two_in_total (x ∷ xs) zero zero v w apart at there = absurd (apart refl)
   two_in_total (x ∷ xs) zero (suc j) v w apart at there =
@@ -62,4 +69,5 @@ module _ {I : Type 0} where
       let same = callers_at x w there in
       let rest = one_in_total xs i v at in
       omega arith
-  two_in_total (x ∷ xs) (suc i) (suc j) v w apart at there = let rest = two_in_total xs i j v w (λ e. apart (ap suc e)) at there in omega arith
+  two_in_total (x ∷ xs) (suc i) (suc j) v w apart at there =
+      let rest = two_in_total xs i j v w (λ e. apart (ap suc e)) at there in omega arith

@@ -13,46 +13,46 @@ module _ {I : Type 0} where
   total_callers [] = 0
   total_callers (v ∷ vs) = v.callers + total_callers vs
 
-  -- the fact holds of each seat and its view
+  -- the fact holds of each seat, by its number, and its view
   abbrev pub EachView : (ℕ → View I → Type 0) → List (View I) → Type 0
   EachView F views = (seat : ℕ) (v : View I) → get_elem? views seat ≡ some v → F seat v
 
   -- a view that is not spent has the lock's inputs and one caller at least
-  abbrev pub IsOver : I → ℕ → View I → Type 0
-  IsOver inputs _ v = (v ≡ spent) ⊎ ((0 < v.callers) × (v.inputs ≡ Some inputs))
+  abbrev pub FitsLock : I → ℕ → View I → Type 0
+  FitsLock inputs _ v = (v ≡ spent) ⊎ ((0 < v.callers) × (v.inputs ≡ Some inputs))
 
-  -- no view is marked while the value is at home, at these positions
-  abbrev pub IsBeside : List ℕ → ℕ → View I → Type 0
-  IsBeside positions _ v = (v.taken ≡ None) × AtMost v.seen positions
+  -- while the value is at home no view is marked, and none has seen more than the value's positions
+  abbrev pub FitsHome : List ℕ → ℕ → View I → Type 0
+  FitsHome positions _ v = (v.taken ≡ None) × AtMost v.seen positions
 
-  -- one view alone is marked, with these positions, while its seat has the value
-  abbrev pub IsBehind : ℕ → List ℕ → ℕ → View I → Type 0
-  IsBehind holder positions seat v = AtMost v.seen positions × ((seat ≡ holder) ⊎ (v.taken ≡ None))
+  -- while the holder has the value no other view is marked, and none has seen more than the holder's mark
+  abbrev pub FitsHolder : ℕ → List ℕ → ℕ → View I → Type 0
+  FitsHolder holder positions seat v = AtMost v.seen positions × ((seat ≡ holder) ⊎ (v.taken ≡ None))
 
 module _ {T I : Type 0} where
-  -- the slot is out with the seat whose view is marked, and no view has seen more than the mark
+  -- the slot is out with the seat whose view is marked
   pub record IsTaken (s : State (Option T) (View I)) : Type 0 where
     pub word : slice_index s.words 0 ≡ 1
     pub holder : ℕ
     pub mark : List ℕ
     pub home : s.homes ≡ none ∷ []
     pub marked : (v : View I) × (get_elem? s.views holder ≡ some v) × (v.taken ≡ Some mark)
-    pub views : EachView (IsBehind holder mark) s.views
+    pub views : EachView (FitsHolder holder mark) s.views
 
 module _ {T I : Type 0} (inputs : T → I) (positions : T → List ℕ) where
-  -- the value is at home and over the inputs, and no view has seen more than its positions
+  -- the value is at home and over the lock's inputs
   pub record IsFree (over : I) (s : State (Option T) (View I)) : Type 0 where
     pub word : slice_index s.words 0 ≡ 0
     pub value : T
     pub home : s.homes ≡ some (Some value) ∷ []
     pub over_inputs : inputs value ≡ over
-    pub views : EachView (IsBeside (positions value)) s.views
+    pub views : EachView (FitsHome (positions value)) s.views
 
   -- what holds between any two steps of a lock over these inputs and for so many callers
   pub record KeepsRule (over : I) (callers : ℕ) (s : State (Option T) (View I)) : Type 0 where
     pub one_word : length s.words ≡ 1
     pub all_callers : total_callers s.views ≡ callers
-    pub belongs : EachView (IsOver over) s.views
+    pub belongs : EachView (FitsLock over) s.views
     pub place : IsFree over s ⊎ IsTaken s
 
   -- the seat has the slot and the value in it, which is over the inputs and no less far than was seen

@@ -2,7 +2,7 @@ ghost use Rattle.std.specs.Prelude.{ℕ, List};
 
 /// A value that a lock can keep.
 pub trait Kept {
-    /// What the value is over. No value of this type is made.
+    /// What the value is over. The lock makes no value of this type.
     type Inputs;
 
     // They are the same for as long as the lock lasts.

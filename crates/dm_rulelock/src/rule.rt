@@ -1,4 +1,9 @@
 //! The rule of a lock, and what each step on it tells.
+//!
+//! A lock is a table of one word and one slot, which begins with the value in the slot. From then on there are
+//! seven kinds of step, each of one pass. A split and a join load the word. A take finds it free and a miss finds it
+//! taken, by one compare and exchange. While a pass has taken, a lift brings the value out of the slot and a lay puts
+//! it in, and a give makes the word free again.
 ghost use Rattle.dm_rulelock.specs.Views.{first_view, spent, after_split, split_off, after_join};
 ghost use Rattle.dm_rulelock.specs.Rule.{KeepsRule, TriesToTake, GivesBack};
 

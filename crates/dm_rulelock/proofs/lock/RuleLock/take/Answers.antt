@@ -10,4 +10,5 @@ pub exchange-requires : goal.exchange-requires
 exchange-requires g c =
     let took = c.compare_exchange.ensures.2.0 c.if-compare_exchange-eq-FREE.true in
     let out = ap (λ me. me.1) took.1 in
-    (c.compare_exchange.ensures.0 ∙ (c.loop.invariant.0 ∙ c.requires.own), (Some took.0, out ∙ ap (λ slots. (0, Some took.0) ∷ rest slots) (sym out)))
+    let own = c.compare_exchange.ensures.0 ∙ (c.loop.invariant.0 ∙ c.requires.own) in
+    (own, (Some took.0, out ∙ ap (λ slots. (0, Some took.0) ∷ rest slots) (sym out)))
