@@ -1,0 +1,5 @@
+pub mod Positions
+pub mod Views
+pub mod RuleLemmas
+pub mod Steps
+pub mod Later

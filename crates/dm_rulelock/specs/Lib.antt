@@ -1,0 +1,4 @@
+pub mod Positions
+pub mod Views
+pub mod Rule
+pub mod Passes
