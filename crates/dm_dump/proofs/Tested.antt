@@ -31,8 +31,8 @@ chosen test false x y p q = q
 kind_tested : (letters : List Letter) → if_there is_tested (kind_of letters) ≡ true
 kind_tested letters =
     chosen is_tested (has_role INT_TYPE letters) (Some (kind.Signed 4)) _ refl
-        (chosen is_tested (has_role BIGINT_TYPE letters) (Some (kind.Signed 8)) _ refl
-            (chosen is_tested (ltb (number_of (bytes_with LENGTH letters)) 65536) (Some (kind.Varchar (number_of (bytes_with LENGTH letters)))) None refl refl))
+    (chosen is_tested (has_role BIGINT_TYPE letters) (Some (kind.Signed 8)) _ refl
+    (chosen is_tested (ltb (number_of (bytes_with LENGTH letters)) 65536) (Some (kind.Varchar (number_of (bytes_with LENGTH letters)))) None refl refl))
 
 -- a column without a default, whose values are tested
 abbrev pub is_plain : Column → Bool

@@ -50,5 +50,5 @@ literal_of letters =
     if has_role NULL_WORD letters then Some value.Null
     else if has_role STRING letters then Some (value.Bytes (string_of letters))
     else if nat_lt (number_of (bytes_with DIGIT letters)) (2 ^ 64)
-        then Some (value.Int (signed (has_role MINUS letters) (number_of (bytes_with DIGIT letters))))
-        else None
+    then Some (value.Int (signed (has_role MINUS letters) (number_of (bytes_with DIGIT letters))))
+    else None

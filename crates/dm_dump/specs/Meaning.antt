@@ -40,7 +40,7 @@ kind_of letters =
 abbrev pub column_of : List Letter → Option Column
 column_of letters =
     option_and_then (λ name. option_map (λ k. record { name = name; kind = k; nullable = not (has_role NOT_NULL letters); default_rule = default.Nothing }) (kind_of letters))
-        (named (bytes_with COLUMN_NAME letters))
+    (named (bytes_with COLUMN_NAME letters))
 
 abbrev pub columns_of : List Letter → Option (List Column)
 columns_of letters = all_some (map column_of (parts (begins (COLUMN ∷ [])) letters))
@@ -67,5 +67,5 @@ schema_in letters = option_and_then (λ columns. result_ok (schema_of columns (b
 abbrev pub dump_of : List Letter → Option Dump
 dump_of letters =
     option_and_then (λ table. option_and_then (λ schema. option_and_then (λ rows.
-        if inserts_into table letters then Some (record { table = table; schema = schema; rows = rows }) else None)
-        (rows_of schema.columns letters)) (schema_in letters)) (named (bytes_with TABLE_NAME letters))
+    if inserts_into table letters then Some (record { table = table; schema = schema; rows = rows }) else None)
+    (rows_of schema.columns letters)) (schema_in letters)) (named (bytes_with TABLE_NAME letters))

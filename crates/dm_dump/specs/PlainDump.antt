@@ -70,7 +70,7 @@ behind_word = optional (Seq blanks (optional not_null))
 abbrev pub type : Grammar
 type = Or (all_of (Word 73 INT_TYPE ∷ word (codes "NT") ∷ behind_word ∷ []))
     (Or (all_of (Word 66 BIGINT_TYPE ∷ word (codes "IGINT") ∷ behind_word ∷ []))
-        (all_of (word (codes "VARCHAR") ∷ gap ∷ mark 40 FILLER ∷ digits LENGTH ∷ mark 41 FILLER ∷ optional not_null ∷ [])))
+    (all_of (word (codes "VARCHAR") ∷ gap ∷ mark 40 FILLER ∷ digits LENGTH ∷ mark 41 FILLER ∷ optional not_null ∷ [])))
 
 -- `name` type [NOT NULL]
 abbrev pub column : Grammar
@@ -84,7 +84,7 @@ primary_key = all_of (word (codes "PRIMARY") ∷ blanks ∷ word (codes "KEY") �
 abbrev pub create_table : Grammar
 create_table =
     all_of (gap ∷ word (codes "CREATE") ∷ blanks ∷ word (codes "TABLE") ∷ gap ∷ name FILLER TABLE_NAME ∷ mark 40 FILLER
-        ∷ column ∷ mark 44 FILLER ∷ Many (Seq column (mark 44 FILLER)) ∷ primary_key ∷ mark 41 FILLER ∷ mark 59 FILLER ∷ [])
+    ∷ column ∷ mark 44 FILLER ∷ Many (Seq column (mark 44 FILLER)) ∷ primary_key ∷ mark 41 FILLER ∷ mark 59 FILLER ∷ [])
 
 -- a string from the role of its opening quote on: bytes, and bytes behind a backslash
 abbrev pub quoted : ℕ → Grammar
@@ -107,7 +107,7 @@ row = all_of (mark 40 ROW ∷ literal ∷ Many (Seq (mark 44 NEXT) literal) ∷ 
 abbrev pub insert : Grammar
 insert =
     all_of (Word 73 INSERT ∷ word (codes "NSERT") ∷ blanks ∷ word (codes "INTO") ∷ gap ∷ name FILLER INSERT_TABLE ∷ word (codes "VALUES") ∷ gap
-        ∷ row ∷ Many (Seq (mark 44 FILLER) row) ∷ mark 59 FILLER ∷ [])
+    ∷ row ∷ Many (Seq (mark 44 FILLER) row) ∷ mark 59 FILLER ∷ [])
 
 abbrev pub plain_dump : Grammar
 plain_dump = Seq create_table (Many insert)

@@ -10,9 +10,11 @@ use dm_grammar::{Class, Classes, Kind, Role, Rule};
 pub const BLANK: Class = 128;
 /// A byte of a name: a-z, 0-9 and `_`.
 pub const NAME_BYTE: Class = 129;
+
 pub const ANY_DIGIT: Class = 130;
 /// A byte of a string that stands for itself: no quote and no backslash.
 pub const PLAIN_BYTE: Class = 131;
+
 pub const ANY_BYTE: Class = 132;
 
 /// What the grammar sees of a byte.
@@ -102,7 +104,9 @@ macro_rules! quoted {
 }
 
 const GAP: Rule<'static> = Rule::Many(&byte!(BLANK, FILLER));
+
 const BLANKS: Rule<'static> = Rule::Seq(&byte!(BLANK, FILLER), &GAP);
+
 const NOT_NULL_WORDS: Rule<'static> = all_of!(
     byte!(b'N', NOT_NULL),
     word!(b'O' b'T'),
@@ -110,13 +114,17 @@ const NOT_NULL_WORDS: Rule<'static> = all_of!(
     word!(b'N' b'U' b'L' b'L'),
     GAP
 );
+
 const BEHIND_WORD: Rule<'static> = optional!(Rule::Seq(&BLANKS, &optional!(NOT_NULL_WORDS)));
+
 const INT: Rule<'static> = all_of!(byte!(b'I', INT_TYPE), word!(b'N' b'T'), BEHIND_WORD);
+
 const BIGINT: Rule<'static> = all_of!(
     byte!(b'B', BIGINT_TYPE),
     word!(b'I' b'G' b'I' b'N' b'T'),
     BEHIND_WORD
 );
+
 const VARCHAR: Rule<'static> = all_of!(
     word!(b'V' b'A' b'R' b'C' b'H' b'A' b'R'),
     GAP,
@@ -125,8 +133,11 @@ const VARCHAR: Rule<'static> = all_of!(
     mark!(b')', FILLER),
     optional!(NOT_NULL_WORDS)
 );
+
 const TYPE: Rule<'static> = Rule::Or(&INT, &Rule::Or(&BIGINT, &VARCHAR));
+
 const COLUMN_DEFINITION: Rule<'static> = Rule::Seq(&name!(COLUMN, COLUMN_NAME), &TYPE);
+
 const PRIMARY_KEY: Rule<'static> = all_of!(
     word!(b'P' b'R' b'I' b'M' b'A' b'R' b'Y'),
     BLANKS,
@@ -136,6 +147,7 @@ const PRIMARY_KEY: Rule<'static> = all_of!(
     name!(FILLER, KEY_NAME),
     mark!(b')', FILLER)
 );
+
 const CREATE_TABLE: Rule<'static> = all_of!(
     GAP,
     word!(b'C' b'R' b'E' b'A' b'T' b'E'),
@@ -151,19 +163,22 @@ const CREATE_TABLE: Rule<'static> = all_of!(
     mark!(b')', FILLER),
     mark!(b';', FILLER)
 );
-const STRING_LITERAL: Rule<'static> =
-    all_of!(quoted!(STRING), Rule::Many(&quoted!(DOUBLED)), GAP);
-const NULL_LITERAL: Rule<'static> =
-    all_of!(byte!(b'N', NULL_WORD), word!(b'U' b'L' b'L'), GAP);
+
+const STRING_LITERAL: Rule<'static> = all_of!(quoted!(STRING), Rule::Many(&quoted!(DOUBLED)), GAP);
+
+const NULL_LITERAL: Rule<'static> = all_of!(byte!(b'N', NULL_WORD), word!(b'U' b'L' b'L'), GAP);
+
 const NUMBER_LITERAL: Rule<'static> = Rule::Seq(&optional!(mark!(b'-', MINUS)), &digits!(DIGIT));
-const LITERAL: Rule<'static> =
-    Rule::Or(&NULL_LITERAL, &Rule::Or(&NUMBER_LITERAL, &STRING_LITERAL));
+
+const LITERAL: Rule<'static> = Rule::Or(&NULL_LITERAL, &Rule::Or(&NUMBER_LITERAL, &STRING_LITERAL));
+
 const ROW_OF_LITERALS: Rule<'static> = all_of!(
     mark!(b'(', ROW),
     LITERAL,
     Rule::Many(&Rule::Seq(&mark!(b',', NEXT), &LITERAL)),
     mark!(b')', FILLER)
 );
+
 const INSERT_ROWS: Rule<'static> = all_of!(
     byte!(b'I', INSERT),
     word!(b'N' b'S' b'E' b'R' b'T'),

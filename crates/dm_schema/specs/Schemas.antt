@@ -65,7 +65,7 @@ is_too_many columns uniques = nat_lt 256 (length columns) || nat_lt 16 (length u
 abbrev pub schema_of : List Column → List Text → List UniqueKey → Result Layout SchemaFault
 schema_of columns primary uniques =
     unless_refused (first_refusal ((is_too_many columns uniques, fault.TooMany) ∷ refusals columns primary uniques))
-        (record { columns = columns; primary = primary; uniques = uniques })
+    (record { columns = columns; primary = primary; uniques = uniques })
 
 -- What holds of every schema: names are apart, keys name columns, no column of the primary key is nullable,
 -- and defaults fit.

@@ -13,6 +13,8 @@ mod table_name;
 
 pub use change::{Change, Spot};
 pub use column::{Column, DefaultRule, Kind, UniqueKey};
+pub use dm_list::{Bytes, Copied, Items, Places, Sequence};
+pub use dm_value::{Day, Dec, Moment, Name, Names, Row, Rows, Stamp, Value};
 pub use fault::{EffectFault, SchemaFault};
 pub use fitting::fits;
 pub use named::{Named, in_name_order};
@@ -20,9 +22,6 @@ pub use row_change::{KeyValue, RowChange};
 pub use rows::{key_of, values_at};
 pub use schema::Schema;
 pub use table_name::TableName;
-
-pub use dm_list::{Bytes, Copied, Items, Places, Sequence};
-pub use dm_value::{Day, Dec, Moment, Name, Names, Row, Rows, Stamp, Value};
 
 /// The changes of one statement, from left to right.
 pub type Changes = Sequence<Change>;

@@ -12,7 +12,12 @@ use std::alloc::{AllocError, Global};
 pub fn key_of(alloc: Global, schema: &Schema, row: &Row) -> Result<Row, AllocError>
     ensures { IfOk result (λ key. key ≡ key_of schema.now row.now) }
 {
-    let values = values_at(alloc, schema.columns(), row.as_slice(), schema.primary().as_slice())?;
+    let values = values_at(
+        alloc,
+        schema.columns(),
+        row.as_slice(),
+        schema.primary().as_slice(),
+    )?;
     Ok(Row::new(values))
 }
 

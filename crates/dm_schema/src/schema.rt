@@ -102,9 +102,7 @@ impl Schema {
         let other_columns = in_name_order(alloc, other.columns())?;
         let uniques = in_name_order(alloc, self.uniques())?;
         let other_uniques = in_name_order(alloc, other.uniques())?;
-        Ok(columns == other_columns
-            && self.primary == other.primary
-            && uniques == other_uniques)
+        Ok(columns == other_columns && self.primary == other.primary && uniques == other_uniques)
     }
 
     /// The column of a name, if there is one.

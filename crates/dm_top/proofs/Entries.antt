@@ -34,7 +34,7 @@ pub entry_is : (dump : Dump) (row key values : Row) (columns : List Column) (sli
     → values ≡ values_at columns slice names → entry_of dump row ≡ (key, values)
 entry_is dump row key values columns slice names k c s n v =
     let same : values_at dump.schema.columns row (ordered_names dump) ≡ values =
-        sym (v ∙ ap (λ cs. values_at cs slice names) c ∙ ap (λ r. values_at dump.schema.columns r names) s ∙ ap (values_at dump.schema.columns row) n) in
+    sym (v ∙ ap (λ cs. values_at cs slice names) c ∙ ap (λ r. values_at dump.schema.columns r names) s ∙ ap (values_at dump.schema.columns row) n) in
     ap (λ q. (q, values_at dump.schema.columns row (ordered_names dump))) (sym k) ∙ ap (λ vs. (key, vs)) same
 
 one_entry : (es : List Entry) (e : Entry) (more : List Entry) (b : Bool) → list_any (λ q. same_key e.0 q) (keys_of es) ≡ b → added es (e ∷ more) ≡ cond b None (added (insert_entry row_cmp es e.0 e.1) more)

@@ -114,7 +114,7 @@ pub stands_with : (dumps : List Dump) (first : Option Layout) (entries : List En
     → stand_together (dumps ++ dump ∷ []) ≡ (agrees first dump && not (repeats same_key (keys_of (all_entries dumps ++ entries_of dump))))
 stands_with dumps first entries dump merged =
     let schemas : have_one_schema (dumps ++ dump ∷ []) ≡ agrees first dump =
-        one_schema_push dumps dump ∙ ap (λ b. b && agrees (first_schema dumps) dump) ((and_parts _ _ merged.together).0) ∙ ap (λ f. agrees f dump) (sym merged.schema) in
+    one_schema_push dumps dump ∙ ap (λ b. b && agrees (first_schema dumps) dump) ((and_parts _ _ merged.together).0) ∙ ap (λ f. agrees f dump) (sym merged.schema) in
     ap (λ es. have_one_schema (dumps ++ dump ∷ []) && not (repeats same_key (keys_of es))) (entries_push dumps dump)
     ∙ ap (λ b. b && not (repeats same_key (keys_of (all_entries dumps ++ entries_of dump)))) schemas
 
@@ -139,12 +139,14 @@ pub merges : (dumps : List Dump) (first : Option Layout) (entries now : List Ent
     → (stand_together (dumps ++ dump ∷ []) ≡ true) × IsMerged (dumps ++ dump ∷ []) (or_its_schema first dump) now
 merges dumps first entries now dump merged agreed all =
     let apart = some_unless _ _ now (sym (added_more dumps first entries dump merged) ∙ all) in
-    let stands : stand_together (dumps ++ dump ∷ []) ≡ true = stands_with dumps first entries dump merged ∙ and_from _ _ agreed (not_from_false _ apart.0) in
-    (stands, record {
-      together = stands;
-      schema = ap (λ f. or_its_schema f dump) merged.schema ∙ schema_stays dumps dump;
-      rows = apart.1 ∙ ap (λ es. fin.entries (map_of es)) (sym (entries_push dumps dump))
-    })
+    let stands : stand_together (dumps ++ dump ∷ []) ≡ true = stands_with dumps first entries dump merged ∙ and_from _ _ agreed (not_from_false _ apart.0) in (
+      stands,
+      record {
+        together = stands;
+        schema = ap (λ f. or_its_schema f dump) merged.schema ∙ schema_stays dumps dump;
+        rows = apart.1 ∙ ap (λ es. fin.entries (map_of es)) (sym (entries_push dumps dump));
+      },
+    )
 
 -- a dump that doesn't agree, or one of whose rows wasn't added, doesn't stand together with the others
 pub differs : (dumps : List Dump) (first : Option Layout) (entries : List Entry) (dump : Dump) → IsMerged dumps first entries → agrees first dump ≡ false → stand_together (dumps ++ dump ∷ []) ≡ false

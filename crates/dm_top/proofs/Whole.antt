@@ -21,9 +21,9 @@ use Rattle.dm_top.specs.Top.{Answer, is_free, Merges, Loads}
 -- a front that isn't too long is all
 short_front : (text : Text) → length (front_of MOST_BYTES text) ≤ MOST_BYTES → front_of MOST_BYTES text ≡ text
 short_front text short = elim (cases_lt (length text) (MOST_BYTES + 1)) [
-    | inl lt ↦ take_all (MOST_BYTES + 1) text (omega arith)
-    | inr le ↦ let full = length-take-le (MOST_BYTES + 1) text le in absurd (omega arith)
-  ]
+  | inl lt ↦ take_all (MOST_BYTES + 1) text (omega arith)
+  | inr le ↦ let full = length-take-le (MOST_BYTES + 1) text le in absurd (omega arith)
+]
 
 short_text : (text : Text) → length text ≤ MOST_BYTES → front_of MOST_BYTES text ≡ text
 short_text text short = take_all (MOST_BYTES + 1) text (omega arith)

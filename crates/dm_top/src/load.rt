@@ -30,11 +30,7 @@ pub fn load<F: Shelf>(alloc: Global, words: &[String], shelf: &mut F) -> Result<
 }
 
 /// The text that comes of the files of these names.
-fn load_files<F: Shelf>(
-    alloc: Global,
-    names: &[String],
-    shelf: &mut F,
-) -> Result<Bytes, Status>
+fn load_files<F: Shelf>(alloc: Global, names: &[String], shelf: &mut F) -> Result<Bytes, Status>
     ensures told { IfSome (F.files shelf.old) (λ files.
         MatchBool (is_free result) ⊤ (Loads files (map string_bytes names.now) result)) }
     ensures usage { result ≢ Err Status.Usage }

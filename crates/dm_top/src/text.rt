@@ -15,11 +15,7 @@ use std::alloc::{AllocError, Global};
 use std::collections::BTreeMap;
 
 /// Adds the lines of rows in the order of their keys.
-fn push_rows(
-    alloc: Global,
-    out: &mut Vec<u8>,
-    rows: &BTreeMap<Row, Row>,
-) -> Result<(), AllocError>
+fn push_rows(alloc: Global, out: &mut Vec<u8>, rows: &BTreeMap<Row, Row>) -> Result<(), AllocError>
     ensures { OnOk result (out.new.items ≡ out.old.items ++ flat_map row_line (values rows.now)) }
 {
     for row in rows.values() {

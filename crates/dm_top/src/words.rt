@@ -12,10 +12,7 @@ pub fn names_of(words: &[String]) -> Option<&[String]>
             if command.as_str() == "load"
                 && !names.is_empty()
                 && names.len() <= 64
-                && are_names(names) =>
-        {
-            Some(names)
-        }
+                && are_names(names) => { Some(names) }
         _ => None,
     }
 }

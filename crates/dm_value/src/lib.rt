@@ -4,10 +4,9 @@
 mod name;
 mod value;
 
+use dm_list::Sequence;
 pub use name::Name;
 pub use value::{Day, Dec, Moment, Stamp, Value};
-
-use dm_list::Sequence;
 
 /// A row: its values in the order of the columns.
 pub type Row = Sequence<Value>;
