@@ -6,6 +6,8 @@ mod load;
 mod merge;
 mod plain;
 mod rows;
+#[cfg(test)]
+mod tests;
 mod text;
 mod words;
 
