@@ -1,4 +1,4 @@
-ghost use Rattle.std.specs.Prelude.{◌≡◌, ◌+◌, ◌≤◌, ◌↔◌, None, vec_len, IfOk};
+ghost use Rattle.std.specs.Prelude.{◌≡◌, ◌≢◌, ◌+◌, ◌≤◌, ◌↔◌, None, vec_len, IfOk};
 ghost use Rattle.std.specs.IoError.{error_kind};
 
 use crate::front::read_front;
@@ -67,6 +67,7 @@ fn read_named<R: Files>(
 /// What an error is, of a file that is there.
 fn failure(error: &io::Error) -> ShelfError
     ensures memory { (result ≡ ShelfError.Memory) ↔ (error_kind error.now ≡ ErrorKind.OutOfMemory) }
+    ensures failed { (result ≡ ShelfError.Failed) ↔ (error_kind error.now ≢ ErrorKind.OutOfMemory) }
 {
     match error.kind() {
         ErrorKind::OutOfMemory => ShelfError::Memory,

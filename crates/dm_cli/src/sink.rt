@@ -1,5 +1,6 @@
-ghost use Rattle.std.specs.Prelude.{◌≡◌, None, OnOk};
+ghost use Rattle.std.specs.Prelude.{◌≡◌, ◌≤◌, None, OnOk, OnErr};
 ghost use Rattle.std.specs.Io.KnownBytes.{Appends};
+ghost use Rattle.dm_base.specs.Outside.{raised};
 
 use dm_base::{Sink, SinkError};
 use std::io;
@@ -25,7 +26,13 @@ impl<W: Write + Drop> Sink for FileSink<W> {
 
     ghost faults = { λ sink. sink.faults };
 
-    fn put(&mut self, bytes: &[u8]) -> Result<(), SinkError> {
+    /// Where what the writer holds is told, a put adds all of the bytes there, or fails.
+    fn put(&mut self, bytes: &[u8]) -> Result<(), SinkError>
+        ensures written { OnOk result (Appends (W.contents self.old.output) (W.contents self.new.output) bytes.now) }
+        ensures faults { self.old.faults ≤ self.new.faults }
+        ensures failed { OnErr result (self.new.faults ≡ raised self.old.faults) }
+        ensures none_failed { OnOk result (self.new.faults ≡ self.old.faults) }
+    {
         match write_piece(&mut self.output, bytes) {
             Ok(()) => Ok(()),
             Err(_) => {
