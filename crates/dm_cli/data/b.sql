@@ -1,0 +1,1 @@
+CREATE TABLE `t1` (`id` INT NOT NULL, `v` VARCHAR(20), PRIMARY KEY (`id`)); INSERT INTO `t1` VALUES (11,'it\'s');
