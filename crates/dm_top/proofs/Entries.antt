@@ -1,9 +1,8 @@
 -- Rows under their keys, in a sorted map.
-use Rattle.std.proofs.Common.{◌≡◌, ℕ, ◌+◌, ◌<◌, Bool, true, false, cond, not, ◌||◌, List, [], ◌∷◌, length, get_or, drop, map, Option, Some, None, is_some, is_none, refl, sym, ap, ◌∙◌, arith}
+use Rattle.std.proofs.Common.{◌≡◌, ℕ, ◌+◌, ◌<◌, Bool, true, false, cond, not, ◌||◌, List, [], ◌∷◌, length, get_or, drop, map, Option, Some, None, is_some, refl, sym, ap, ◌∙◌}
 use Rattle.std.specs.List.{list_any}
 use Rattle.std.specs.BTreeMap.{BTreeMap, insert_entry, get}
 use Rattle.std.specs.Map.{lookup}
-use Rattle.std.specs.Ordering.{eq_by_cmp}
 use Rattle.std.proofs.lemmas.List.{at_drop_more}
 use Rattle.dm_value.specs.Order.{row_cmp}
 use Rattle.dm_schema.specs.declared.column.Column.{Column}

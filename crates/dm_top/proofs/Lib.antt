@@ -2,4 +2,5 @@ mod Entries
 mod Merging
 mod Fronts
 mod Gathering
+mod Laws
 mod Whole

@@ -1,7 +1,7 @@
 -- Adding the rows of one dump after another is adding the rows of all.
 use Rattle.std.proofs.Common.{◌≡◌, Bool, true, false, cond, not, ◌&&◌, ◌||◌, List, [], ◌∷◌, ◌++◌, map, fold, Option, Some, None, is_some, inl, inr, refl, sym, ap, ◌∙◌, append_assoc, append-nil}
 use Rattle.std.proofs.Math.Bool.{or-true, or-false, and-true}
-use Rattle.std.proofs.lemmas.Bool.{and_from, and_left, and_right, and_parts, or_from, or_left, or_right, or_cases, not-true, not_from_false, not_from_true}
+use Rattle.std.proofs.lemmas.Bool.{and_from, and_right, and_parts, or_from, or_left, or_right, or_cases, not-true, not_from_false, not_from_true}
 use Rattle.std.proofs.lemmas.Cmp.{eq_by_cmp_equiv}
 use Rattle.std.proofs.lemmas.List.{map-append, flat_map_more, nil_from_length}
 use Rattle.std.proofs.lemmas.List.Folds.{list_any-append, list_all-append}
@@ -40,7 +40,7 @@ has_inserted o q [] m = sym (or-false _)
 has_inserted {R = R} o q (e ∷ es) m =
     has_inserted o q es (fin.insert m e.0 e.1) ∙ ap (λ value. is_some value || list_any (eq_by_cmp R q) (map (λ e. e.0) es)) (get-insert o m e.0 e.1 q) ∙ is_some_either (eq_by_cmp R q e.0) _ e.1 (fin.get m q)
 
-key_is_there : (q : Row) (es : List Entry) → list_any (same_key q) (keys_of (fin.entries (map_of es))) ≡ list_any (same_key q) (keys_of es)
+pub key_is_there : (q : Row) (es : List Entry) → list_any (same_key q) (keys_of (fin.entries (map_of es))) ≡ list_any (same_key q) (keys_of es)
 key_is_there q es =
     sym (contains_key-keys (map_of es) q) ∙ has_inserted row_total q es fin.empty ∙ ap (λ value. is_some value || list_any (same_key q) (keys_of es)) (get-empty row_cmp q)
 
@@ -72,7 +72,7 @@ repeats_before same (x ∷ xs) ys h =
 keys_push : (es : List Entry) (e : Entry) → repeats same_key (keys_of (es ++ e ∷ [])) ≡ (list_any (same_key e.0) (keys_of es) || repeats same_key (keys_of es))
 keys_push es e = ap (repeats same_key) (map-append (λ (e : Entry). e.0) es (e ∷ [])) ∙ repeats_push same_key ((eq_by_cmp_equiv row_total).symm) (keys_of es) e.0
 
-repeats_there : (before : List Entry) (e : Entry) (more : List Entry) → list_any (same_key e.0) (keys_of before) ≡ true → repeats same_key (keys_of (before ++ e ∷ more)) ≡ true
+pub repeats_there : (before : List Entry) (e : Entry) (more : List Entry) → list_any (same_key e.0) (keys_of before) ≡ true → repeats same_key (keys_of (before ++ e ∷ more)) ≡ true
 repeats_there before e more known =
     ap (λ es. repeats same_key (keys_of es)) (sym (append_assoc before (e ∷ []) more)) ∙ ap (repeats same_key) (map-append (λ (e : Entry). e.0) (before ++ e ∷ []) more)
     ∙ repeats_before same_key (keys_of (before ++ e ∷ [])) (keys_of more) (keys_push before e ∙ or_left _ _ known)
@@ -148,10 +148,7 @@ merges dumps first entries now dump merged agreed all =
       },
     )
 
--- a dump that doesn't agree, or one of whose rows wasn't added, doesn't stand together with the others
-pub differs : (dumps : List Dump) (first : Option Layout) (entries : List Entry) (dump : Dump) → IsMerged dumps first entries → agrees first dump ≡ false → stand_together (dumps ++ dump ∷ []) ≡ false
-differs dumps first entries dump merged disagreed = stands_with dumps first entries dump merged ∙ and_left _ _ disagreed
-
+-- a dump one of whose rows wasn't added doesn't stand together with the others
 pub clashes : (dumps : List Dump) (first : Option Layout) (entries : List Entry) (dump : Dump) → IsMerged dumps first entries → added entries (entries_of dump) ≡ None → stand_together (dumps ++ dump ∷ []) ≡ false
 clashes dumps first entries dump merged none =
     stands_with dumps first entries dump merged ∙ and_right _ _ (not_from_true _ (none_where _ _ (sym (added_more dumps first entries dump merged) ∙ none)))

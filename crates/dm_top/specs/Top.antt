@@ -1,5 +1,5 @@
 -- How the top call ends, and what it puts.
-use Rattle.std.specs.Prelude.{◌≡◌, ◌↔◌, ⊤, ℕ, Bool, true, false, List, [], Option, Some, None, Result, Ok, Err, IfSome, MatchBool, MatchOption, MatchResult}
+use Rattle.std.specs.Prelude.{◌≡◌, ◌↔◌, ⊤, Bool, true, false, List, [], Option, None, Result, Ok, Err, IfSome, MatchBool, MatchOption, MatchResult}
 use Rattle.dm_base.specs.Outside.{Files, added, AddsPart}
 use Rattle.dm_schema.specs.Names.{Text}
 use Rattle.dm_dump.specs.declared.dump.Dump.{Dump}
