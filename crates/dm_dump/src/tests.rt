@@ -152,27 +152,24 @@ fn counts_characters(rt: HostRuntime) -> Result<(), AllocError> {
     assert_none(&rt, alloc, table, longer, ";")
 }
 
+/// Whether a dump with a string of these bytes is plain.
+fn is_text(alloc: Global, bytes: &[u8]) -> Result<bool, AllocError> {
+    let table = b"CREATE TABLE `t` (`v` VARCHAR(2) NOT NULL,PRIMARY KEY (`v`));";
+    let mut text = table.to_vec(alloc)?;
+    text.extend_from_slice(b"INSERT INTO `t` VALUES ('")?;
+    text.extend_from_slice(bytes)?;
+    text.extend_from_slice(b"');")?;
+    Ok(read_plain_dump(alloc, &text)?.is_some())
+}
+
 #[test]
 fn takes_utf8_alone(rt: HostRuntime) -> Result<(), AllocError> {
     let alloc = rt.alloc();
-    let table =
-        b"CREATE TABLE `t` (`v` VARCHAR(2) NOT NULL,PRIMARY KEY (`v`));INSERT INTO `t` VALUES ('";
     // An `é`, its first half, its halves swapped, a surrogate.
-    for (bytes, plain) in [
-        (b"\xC3\xA9".as_slice(), true),
-        (b"\xC3".as_slice(), false),
-        (b"\xA9\xC3".as_slice(), false),
-        (b"\xED\xA0\x80".as_slice(), false),
-    ] {
-        let mut text = table.to_vec(alloc)?;
-        text.extend_from_slice(bytes)?;
-        text.extend_from_slice(b"');")?;
-        assert_eq!(rt;
-            read_plain_dump(alloc, &text)?.is_some(),
-            plain,
-            "at {bytes:?}"
-        );
-    }
+    assert!(rt; is_text(alloc, b"\xC3\xA9")?);
+    assert!(rt; !is_text(alloc, b"\xC3")?);
+    assert!(rt; !is_text(alloc, b"\xA9\xC3")?);
+    assert!(rt; !is_text(alloc, b"\xED\xA0\x80")?);
     Ok(())
 }
 
