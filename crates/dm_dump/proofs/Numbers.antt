@@ -1,8 +1,8 @@
 -- Numbers that digits write.
-use Rattle.std.proofs.Common.{◌≡◌, ℕ, suc, ◌+◌, ◌-◌, ◌*◌, ◌^◌, ◌<◌, ◌≤◌, Bool, true, false, cond, List, [], ◌∷◌, length, get_or, drop, fold, Option, Some, None, refl, sym, ap, ◌∙◌, arith, ltb}
+use Rattle.std.proofs.Common.{◌≡◌, ℕ, ◌+◌, ◌^◌, ◌<◌, ◌≤◌, Bool, true, false, cond, List, [], ◌∷◌, length, get_or, drop, fold, Option, Some, None, refl, sym, ◌∙◌, arith, ltb}
 use Rattle.std.proofs.lemmas.List.{at_drop_more, at_drop_all}
 use Rattle.std.proofs.lemmas.Bool.{le-ltb, lt-ltb, ltb-false}
-use Rattle.dm_dump.specs.Literals.{with_digit, number_of}
+use Rattle.dm_dump.specs.Literals.{with_digit}
 
 -- a number, if it has at most 64 bits
 abbrev pub in_64_bits : ℕ → Option ℕ

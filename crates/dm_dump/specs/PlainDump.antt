@@ -1,6 +1,6 @@
 -- The grammar of a plain dump. Its tokens are the bytes, and blanks, tabs and line ends may stand between words, names,
 -- numbers, strings and marks; two words have one between them.
-use Rattle.std.specs.Prelude.{◌≡◌, ◌≤◌, ℕ, Bool, true, not, ◌&&◌, ◌||◌, ◌==◌, nat_lt, nat_le, List, [], ◌∷◌, map, length, codes, Option, Some, if◌then◌else◌}
+use Rattle.std.specs.Prelude.{◌≡◌, ◌≤◌, ℕ, Bool, true, not, ◌&&◌, ◌||◌, ◌==◌, nat_lt, nat_le, List, [], ◌∷◌, map, length, codes, Some, if◌then◌else◌}
 use Rattle.dm_grammar.specs.Grammar.{Grammar, Empty, Word, Seq, Or, Many}
 use Rattle.dm_grammar.specs.Sentence.{IsSentence}
 use Rattle.dm_dump.specs.declared.dump.Dump.{Dump}

@@ -1,4 +1,4 @@
-use Rattle.std.proofs.Common.{◌≡◌, ◌∙◌, ap, length, unwrap_or}
+use Rattle.std.proofs.Common.{◌∙◌, ap, length, unwrap_or}
 use Rattle.dm_dump.proofs.PartsLemmas.{first_or_all}
 use Rattle.dm_dump.proofs.letters.count_before_part.Goals as goal
 

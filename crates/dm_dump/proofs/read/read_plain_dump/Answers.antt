@@ -1,4 +1,4 @@
-use Rattle.std.proofs.Common.{◌≡◌, ◌∙◌, List, ℕ, sym, ap, subst, arith, is_some, true, false, IfOk}
+use Rattle.std.proofs.Common.{◌≡◌, ◌∙◌, List, ℕ, sym, ap, subst, arith, IfOk}
 use Rattle.dm_grammar.specs.Sentence.{IsSentence}
 use Rattle.dm_dump.specs.declared.letters.Letter.{Letter}
 use Rattle.dm_dump.specs.Letters.{letters_of}
