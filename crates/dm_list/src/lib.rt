@@ -3,6 +3,8 @@
 
 mod copied;
 mod sequence;
+#[cfg(test)]
+mod tests;
 
 pub use copied::Copied;
 pub use sequence::Sequence;

@@ -2,6 +2,8 @@
 #![tactic(auto)]
 
 mod name;
+#[cfg(test)]
+mod tests;
 mod value;
 
 use dm_list::Sequence;
