@@ -47,8 +47,8 @@ length_of_map before [] apart so_far = ap (λ es. fin.len (map_of es)) (append-n
 length_of_map before (e ∷ more) apart so_far =
     let fresh : fin.contains_key (map_of before) e.0 ≡ false = contains_key-keys (map_of before) e.0 ∙ key_is_there e.0 before ∙ is_fresh before e more apart in
     let one : fin.len (map_of (before ++ e ∷ [])) ≡ length (before ++ e ∷ []) =
-        ap fin.len (fold-append _ fin.empty before (e ∷ [])) ∙ len-insert row_total (map_of before) e.0 e.1
-        ∙ ap (λ there. cond there (fin.len (map_of before)) (fin.len (map_of before) + 1)) fresh ∙ ap (λ n. n + 1) so_far ∙ sym (length-append before (e ∷ [])) in
+    ap fin.len (fold-append _ fin.empty before (e ∷ [])) ∙ len-insert row_total (map_of before) e.0 e.1
+    ∙ ap (λ there. cond there (fin.len (map_of before)) (fin.len (map_of before) + 1)) fresh ∙ ap (λ n. n + 1) so_far ∙ sym (length-append before (e ∷ [])) in
     let regroup = append_assoc before (e ∷ []) more in
     ap (λ es. fin.len (map_of es)) (sym regroup)
     ∙ length_of_map (before ++ e ∷ []) more (ap (λ es. repeats same_key (keys_of es)) regroup ∙ apart) one ∙ ap length regroup
