@@ -1,5 +1,5 @@
 pub mod PartsLemmas
 pub mod Numbers
 pub mod Each
-pub mod Tested
+pub mod Formed
 pub mod Reading

@@ -1,5 +1,5 @@
 -- What a plain dump says, from the roles of its bytes.
-use Rattle.std.specs.Prelude.{ℕ, Bool, not, nat_le, nat_lt, List, [], ◌∷◌, length, map, Option, Some, None, option_and_then, if◌then◌else◌}
+use Rattle.std.specs.Prelude.{ℕ, Bool, not, ◌&&◌, nat_le, nat_lt, List, [], ◌∷◌, length, map, Option, Some, None, option_and_then, if◌then◌else◌}
 use Rattle.std.specs.Option.{option_map}
 use Rattle.std.specs.Result.{result_ok}
 use Rattle.std.specs.List.{list_all}
@@ -11,6 +11,7 @@ use Rattle.dm_schema.specs.declared.column.DefaultRule.TheVariants as default
 use Rattle.dm_schema.specs.declared.column.Column.{Column}
 use Rattle.dm_schema.specs.Names.{same_name}
 use Rattle.dm_schema.specs.Fits.{fits}
+use Rattle.dm_schema.specs.Kinds.{is_folded}
 use Rattle.dm_schema.specs.Layout.{Layout}
 use Rattle.dm_schema.specs.Schemas.{schema_of}
 use Rattle.dm_dump.specs.declared.dump.Dump.{Dump}
@@ -25,9 +26,9 @@ all_some [] = Some []
 all_some (None ∷ rest) = None
 all_some (Some x ∷ rest) = option_map (λ xs. x ∷ xs) (all_some rest)
 
--- a name has at most 64 bytes
+-- a name has at most 64 bytes, and no capital letter
 abbrev pub named : List ℕ → Option (List ℕ)
-named name = if nat_le (length name) 64 then Some name else None
+named name = if nat_le (length name) 64 && is_folded name then Some name else None
 
 -- INT and BIGINT have 4 and 8 bytes; VARCHAR's length is below 65,536
 abbrev pub kind_of : List Letter → Option Kind

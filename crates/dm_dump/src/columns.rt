@@ -1,7 +1,7 @@
 ghost use Rattle.std.specs.Prelude.{◌≡◌, IfOk, IsTrue, length, nat_le};
 ghost use Rattle.std.specs.Option.{option_map};
 ghost use Rattle.std.specs.List.{list_all};
-ghost use Rattle.dm_schema.specs.Kinds.{has_tested_default};
+ghost use Rattle.dm_schema.specs.Kinds.{is_folded};
 ghost use Rattle.dm_dump.specs.Letters.{bytes_with};
 ghost use Rattle.dm_dump.specs.Meaning.{named, kind_of, column_of, columns_of, schema_in};
 
@@ -9,16 +9,16 @@ use crate::letters::{Letter, bytes_with, has_role, next_part};
 use crate::literals::number_of;
 use crate::roles::{BIGINT_TYPE, COLUMN, COLUMN_NAME, INT_TYPE, KEY_NAME, LENGTH, NOT_NULL};
 use dm_grammar::Role;
-use dm_schema::{Column, DefaultRule, Kind, Schema};
+use dm_schema::{Column, DefaultRule, Kind, Schema, is_folded};
 use dm_value::{Name, Names};
 use std::alloc::{AllocError, Global};
 
-/// The name that the bytes of a role spell; `None` where it is longer than 64 bytes.
+/// The name that the bytes of a role spell; `None` where it is longer than 64 bytes or has a capital letter.
 pub fn name_with(alloc: Global, letters: &[Letter], role: Role) -> Result<Option<Name>, AllocError>
     ensures { IfOk result (λ name. name ≡ named (bytes_with role letters.now)) }
 {
     let bytes = bytes_with(alloc, letters, role)?;
-    Ok((bytes.len() <= 64).then(|| Name::new(bytes)))
+    Ok((bytes.len() <= 64 && is_folded(&bytes)).then(|| Name::new(bytes)))
 }
 
 fn kind_of(alloc: Global, letters: &[Letter]) -> Result<Option<Kind>, AllocError>

@@ -2,7 +2,7 @@ ghost use Rattle.std.specs.Prelude.{◌≡◌, ◌∷◌, [], IfOk, IsTrue};
 ghost use Rattle.std.specs.Option.{option_map};
 ghost use Rattle.std.specs.List.{list_all};
 ghost use Rattle.std.specs.Cmp.Lexicographic.{pointwise};
-ghost use Rattle.dm_schema.specs.Kinds.{is_tested};
+ghost use Rattle.dm_schema.specs.Kinds.{is_column};
 ghost use Rattle.dm_schema.specs.Fits.{fits};
 ghost use Rattle.dm_dump.specs.Letters.{parts, begins};
 ghost use Rattle.dm_dump.specs.Meaning.{all_some, row_of, rows_of, inserts_into, values_of, dump_of};
@@ -34,7 +34,7 @@ fn values_of(alloc: Global, letters: &[Letter]) -> Result<Option<Vec<Value>>, Al
 
 /// Whether there is a value for each column, and each fits.
 fn all_fit(values: &[Value], columns: &[Column]) -> bool
-    requires { IsTrue (list_all (λ c. is_tested c.kind) columns.now) }
+    requires { IsTrue (list_all is_column columns.now) }
     ensures { result ≡ pointwise fits values.now columns.now }
 {
     match (values, columns) {
@@ -47,7 +47,7 @@ fn all_fit(values: &[Value], columns: &[Column]) -> bool
 }
 
 fn row_of(alloc: Global, columns: &[Column], letters: &[Letter]) -> Result<Option<Row>, AllocError>
-    requires { IsTrue (list_all (λ c. is_tested c.kind) columns.now) }
+    requires { IsTrue (list_all is_column columns.now) }
     ensures { IfOk result (λ row. row ≡ row_of columns.now letters.now) }
 {
     let Some(values) = values_of(alloc, letters)? else {
@@ -66,7 +66,7 @@ fn rows_of(
     columns: &[Column],
     letters: &[Letter],
 ) -> Result<Option<Vec<Row>>, AllocError>
-    requires { IsTrue (list_all (λ c. is_tested c.kind) columns.now) }
+    requires { IsTrue (list_all is_column columns.now) }
     ensures { IfOk result (λ rows. option_map (λ v. v.items) rows ≡ rows_of columns.now letters.now) }
 {
     let mut rows = Vec::new(alloc);

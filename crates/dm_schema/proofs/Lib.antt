@@ -1,3 +1,4 @@
+pub mod KeyLemmas
 pub mod Texts
 pub mod NameOrderLemmas
 pub mod Laws

@@ -1,36 +1,63 @@
--- Which numbers a kind may have.
-use Rattle.std.specs.Prelude.{ℕ, Bool, true, false, ◌&&◌, ◌||◌, ◌==◌, nat_le}
+-- What is asked of kinds, defaults, names and keys before they can make a schema.
+use Rattle.std.specs.Prelude.{ℕ, Bool, true, false, not, ◌&&◌, ◌||◌, ◌==◌, nat_le, List, length}
+use Rattle.std.specs.List.{list_any}
+use Rattle.dm_value.specs.declared.value.Value.{Value}
+use Rattle.dm_value.specs.declared.value.Value.TheVariants as value
 use Rattle.dm_schema.specs.declared.column.Kind.{Kind}
 use Rattle.dm_schema.specs.declared.column.Kind.TheVariants as kind
 use Rattle.dm_schema.specs.declared.column.DefaultRule.{DefaultRule}
 use Rattle.dm_schema.specs.declared.column.DefaultRule.TheVariants as default
 use Rattle.dm_schema.specs.declared.column.Column.{Column}
+use Rattle.dm_schema.specs.declared.column.UniqueKey.{UniqueKey}
+
+-- at least low, and at most high
+abbrev pub is_between : ℕ → ℕ → ℕ → Bool
+is_between low high n = nat_le low n && nat_le n high
 
 -- the bytes of TINYINT, SMALLINT, MEDIUMINT, INT and BIGINT
 abbrev pub is_integer_size : ℕ → Bool
 is_integer_size size = size == 1 || size == 2 || size == 3 || size == 4 || size == 8
 
--- a kind whose values are tested: integers with a sign, and VARCHAR
-abbrev pub is_tested : Kind → Bool
-is_tested (kind.Signed size) = is_integer_size size
-is_tested (kind.Unsigned size) = false
-is_tested (kind.Decimal precision scale) = false
-is_tested (kind.Char most) = false
-is_tested (kind.Varchar most) = true
-is_tested (kind.Text prefix) = false
-is_tested (kind.Binary size) = false
-is_tested (kind.Varbinary most) = false
-is_tested (kind.Blob prefix) = false
-is_tested kind.Date = false
-is_tested kind.Year = false
-is_tested (kind.Datetime digits) = false
-is_tested (kind.Timestamp digits) = false
+-- A kind's numbers are in range: sizes of integers, precision and scale, the bytes of a length prefix, the digits of a
+-- fraction, and the lengths of CHAR and BINARY. The other lengths have 16 bits.
+abbrev pub is_kind : Kind → Bool
+is_kind (kind.Signed size) = is_integer_size size
+is_kind (kind.Unsigned size) = is_integer_size size
+is_kind (kind.Decimal precision scale) = is_between 1 38 precision && nat_le scale precision
+is_kind (kind.Char most) = nat_le most 255
+is_kind (kind.Varchar most) = true
+is_kind (kind.Text prefix) = is_between 1 4 prefix
+is_kind (kind.Binary size) = nat_le size 255
+is_kind (kind.Varbinary most) = true
+is_kind (kind.Blob prefix) = is_between 1 4 prefix
+is_kind kind.Date = true
+is_kind kind.Year = true
+is_kind (kind.Datetime digits) = nat_le digits 6
+is_kind (kind.Timestamp digits) = nat_le digits 6
 
--- a constant default is of a kind whose values are tested
-abbrev pub is_default_tested : DefaultRule → Kind → Bool
-is_default_tested default.Nothing k = true
-is_default_tested default.Now k = true
-is_default_tested (default.Const value) k = is_tested k
+abbrev pub is_null : Value → Bool
+is_null value.Null = true
+is_null (value.Int n) = false
+is_null (value.Bytes bytes) = false
+is_null (value.Dec d) = false
+is_null (value.Date d) = false
+is_null (value.Moment m) = false
+is_null (value.Stamp s) = false
 
-abbrev pub has_tested_default : Column → Bool
-has_tested_default c = is_default_tested c.default_rule c.kind
+-- a constant default isn't NULL
+abbrev pub is_rule : DefaultRule → Bool
+is_rule default.Nothing = true
+is_rule (default.Const v) = not (is_null v)
+is_rule default.Now = true
+
+-- a name without ASCII capital letters, in which names of columns and keys are kept
+abbrev pub is_folded : List ℕ → Bool
+is_folded name = not (list_any (is_between 65 90) name)
+
+-- a column of which a schema can be made
+abbrev pub is_column : Column → Bool
+is_column c = is_folded c.name && is_kind c.kind && is_rule c.default_rule
+
+-- a unique key of which a schema can be made: it has one column at least
+abbrev pub is_key : UniqueKey → Bool
+is_key k = is_folded k.name && not (length k.columns == 0)

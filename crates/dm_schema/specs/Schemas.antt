@@ -1,5 +1,5 @@
 -- When columns and keys are a schema, and when two schemas are equal.
-use Rattle.std.specs.Prelude.{ℕ, Bool, true, false, not, ◌&&◌, ◌||◌, ◌==◌, nat_lt, nat_eq, List, [], ◌∷◌, ◌++◌, length, map, Option, Some, None, is_none, Result, IsTrue, if◌then◌else◌}
+use Rattle.std.specs.Prelude.{ℕ, Bool, true, false, not, ◌&&◌, ◌||◌, ◌==◌, nat_lt, nat_le, nat_eq, List, [], ◌∷◌, ◌++◌, length, map, Option, Some, None, is_none, Result, IsTrue, if◌then◌else◌}
 use Rattle.std.specs.List.{list_any, list_all}
 use Rattle.std.specs.Cmp.Lexicographic.{pointwise}
 use Rattle.dm_list.specs.Answer.{first_refusal, unless_refused}
@@ -15,6 +15,7 @@ use Rattle.dm_schema.specs.Layout.{Layout}
 use Rattle.dm_schema.specs.Names.{Text, same_name, has_column, repeats}
 use Rattle.dm_schema.specs.NameOrder.{columns_in_order, uniques_in_order}
 use Rattle.dm_schema.specs.Fits.{fits_by}
+use Rattle.dm_schema.specs.Kinds.{is_column, is_key}
 
 -- each name is a column's
 abbrev pub all_columns : List Column → List Text → Bool
@@ -57,9 +58,13 @@ refusals columns primary uniques =
     ∷ (list_any is_unfit_default columns, fault.DefaultUnfit)
     ∷ []
 
+-- more unique keys than a table can have
+abbrev pub has_too_many_keys : List UniqueKey → Bool
+has_too_many_keys uniques = nat_lt 16 (length uniques)
+
 -- more than a schema that is read can have
 abbrev pub is_too_many : List Column → List UniqueKey → Bool
-is_too_many columns uniques = nat_lt 256 (length columns) || nat_lt 16 (length uniques)
+is_too_many columns uniques = nat_lt 256 (length columns) || has_too_many_keys uniques
 
 -- the schema of columns and keys, or the first fault
 abbrev pub schema_of : List Column → List Text → List UniqueKey → Result Layout SchemaFault
@@ -67,10 +72,19 @@ schema_of columns primary uniques =
     unless_refused (first_refusal ((is_too_many columns uniques, fault.TooMany) ∷ refusals columns primary uniques))
     (record { columns = columns; primary = primary; uniques = uniques })
 
--- What holds of every schema: names are apart, keys name columns, no column of the primary key is nullable,
--- and defaults fit.
+-- the same without the bound on columns, which a join of schemas may pass
+abbrev pub joined_schema_of : List Column → List Text → List UniqueKey → Result Layout SchemaFault
+joined_schema_of columns primary uniques =
+    unless_refused (first_refusal ((has_too_many_keys uniques, fault.TooMany) ∷ refusals columns primary uniques))
+    (record { columns = columns; primary = primary; uniques = uniques })
+
+-- What holds of every schema: it is made of columns and keys of which one can be made, has 16 unique keys at most, and
+-- none of the refusals is there: names are apart, keys name columns, no column of the primary key is nullable, and
+-- defaults fit.
 abbrev pub is_formed : Layout → Bool
-is_formed layout = is_none (first_refusal (refusals layout.columns layout.primary layout.uniques))
+is_formed layout =
+    list_all is_column layout.columns && list_all is_key layout.uniques && nat_le (length layout.uniques) 16
+    && is_none (first_refusal (refusals layout.columns layout.primary layout.uniques))
 
 abbrev pub same_column : Column → Column → Bool
 same_column = (column_eq.ghosts).eq

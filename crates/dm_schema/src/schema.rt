@@ -1,9 +1,9 @@
-ghost use Rattle.std.specs.Prelude.{◌≡◌, IsTrue, IfOk};
+ghost use Rattle.std.specs.Prelude.{◌≡◌, ◌≤◌, IsTrue, IfOk, length};
 ghost use Rattle.std.specs.List.{list_any, list_all};
 ghost use Rattle.std.specs.Option.{option_copied};
-ghost use Rattle.dm_schema.specs.Kinds.{has_tested_default};
+ghost use Rattle.dm_schema.specs.Kinds.{is_column, is_key, is_kind};
 ghost use Rattle.dm_schema.specs.Names.{column_at, has_column, same_name};
-ghost use Rattle.dm_schema.specs.Schemas.{schema_of, schema_equal, is_formed, all_columns, is_nullable_column, has_nullable, is_unfit_default, column_repeats, key_repeats, names_repeat, some_key_repeats_names};
+ghost use Rattle.dm_schema.specs.Schemas.{schema_of, joined_schema_of, refusals, schema_equal, is_formed, all_columns, is_nullable_column, has_nullable, is_unfit_default, column_repeats, key_repeats, names_repeat, some_key_repeats_names};
 
 use crate::fitting::fits;
 use crate::named::in_name_order;
@@ -12,6 +12,11 @@ use dm_list::{Copied, Sequence};
 use dm_value::{Name, Names};
 use std::alloc::{AllocError, Global};
 use std::marker::Model;
+
+/// A table that is read has no more columns.
+const MOST_COLUMNS: usize = 256;
+/// A table has no more unique keys.
+const MOST_UNIQUES: usize = 16;
 
 /// The columns of a table, its primary key and its unique keys. The order of the columns matters for reading rows
 /// alone.
@@ -43,10 +48,28 @@ impl Schema {
         primary: Names,
         uniques: Vec<UniqueKey>,
     ) -> Result<Schema, SchemaFault>
-        requires { IsTrue (list_all has_tested_default columns.items) }
+        requires columns { IsTrue (list_all is_column columns.items) }
+        requires uniques { IsTrue (list_all is_key uniques.items) }
         ensures { result ≡ schema_of columns.items primary uniques.items }
     {
-        if columns.len() > 256 || uniques.len() > 16 {
+        if columns.len() > MOST_COLUMNS {
+            return Err(SchemaFault::TooMany);
+        }
+        Schema::joined(columns, primary, uniques)
+    }
+
+    /// The schema of these columns and keys, however many columns there are: a join of schemas may have more than
+    /// each of them.
+    pub fn joined(
+        columns: Vec<Column>,
+        primary: Names,
+        uniques: Vec<UniqueKey>,
+    ) -> Result<Schema, SchemaFault>
+        requires columns { IsTrue (list_all is_column columns.items) }
+        requires uniques { IsTrue (list_all is_key uniques.items) }
+        ensures { result ≡ joined_schema_of columns.items primary uniques.items }
+    {
+        if uniques.len() > MOST_UNIQUES {
             return Err(SchemaFault::TooMany);
         }
         if columns_repeat(&columns)
@@ -89,7 +112,8 @@ impl Schema {
     }
 
     pub fn uniques(&self) -> &[UniqueKey]
-        ensures { result.now ≡ self.now.uniques }
+        ensures uniques { result.now ≡ self.now.uniques }
+        ensures few { length result.now ≤ 16 }
     {
         self.uniques.as_slice()
     }
@@ -166,7 +190,7 @@ fn has_nullable(columns: &[Column], names: &[Name]) -> bool
 }
 
 fn is_unfit_default(column: &Column) -> bool
-    requires { IsTrue (has_tested_default column.now) }
+    requires { IsTrue (is_kind column.now.kind) }
     ensures { result ≡ is_unfit_default column.now }
 {
     match &column.default_rule {
@@ -176,7 +200,7 @@ fn is_unfit_default(column: &Column) -> bool
 }
 
 fn has_unfit_default(columns: &[Column]) -> bool
-    requires { IsTrue (list_all has_tested_default columns.now) }
+    requires { IsTrue (list_all is_column columns.now) }
     ensures { result ≡ list_any is_unfit_default columns.now }
 {
     match columns {
