@@ -1,7 +1,7 @@
 -- The effect of an ALTER TABLE on a schema: its changes from left to right, up to the first that has a fault.
 use Rattle.std.specs.Prelude.{ℕ, ◌+◌, ◌/◌, ◌%◌, nat_lt, Bool, true, false, not, ◌&&◌, ◌||◌, ◌==◌, List, [], ◌∷◌, ◌++◌, map, length, Option, Some, None, is_some, is_none, unwrap_or, option_and_then, Result, Ok, Err, codes, if◌then◌else◌}
 use Rattle.std.specs.Option.{option_map, option_map_or}
-use Rattle.std.specs.List.{list_any, find, filter, range_with_len}
+use Rattle.std.specs.List.{list_any, list_all, find, filter, flat_map, range_with_len}
 use Rattle.dm_list.specs.Answer.{first_refusal}
 use Rattle.dm_value.specs.declared.value.Value.{Value}
 use Rattle.dm_value.specs.declared.value.Value.TheVariants as value
@@ -21,8 +21,21 @@ use Rattle.dm_schema.specs.declared.fault.SchemaFault.TheVariants as schema_faul
 use Rattle.dm_schema.specs.Layout.{Layout}
 use Rattle.dm_schema.specs.Names.{Text, same_name, column_at, has_column}
 use Rattle.dm_schema.specs.Fill.{fill}
+use Rattle.dm_schema.specs.Kinds.{is_column, is_key, is_folded}
 use Rattle.dm_schema.specs.KindOrder.{comparable}
-use Rattle.dm_schema.specs.Schemas.{schema_of, joined_schema_of}
+use Rattle.dm_schema.specs.Schemas.{schema_of, joined_schema_of, all_columns}
+
+-- a change of whose column or key a schema can be made
+abbrev pub is_change : Change → Bool
+is_change (change.Add column spot) = is_column column
+is_change (change.Drop name) = true
+is_change (change.Modify column spot null_written) = is_column column
+is_change (change.SetDefault name text) = true
+is_change (change.AddUnique key named) = is_key key && list_all is_folded key.columns
+is_change (change.DropKey name) = true
+is_change (change.RenameKey name) = true
+is_change (change.Refused cause) = true
+is_change change.NoEffect = true
 
 -- what a default's text says of a kind: its value, if it has one; NULL among them
 abbrev pub Reading : Type 0
@@ -32,12 +45,6 @@ Reading = Kind → List ℕ → Option Value
 abbrev pub Making : Type 0
 Making = List Column → List Text → List UniqueKey → Result Layout SchemaFault
 
--- the schema so far, and the names of the columns that the statement has added and dropped
-pub record Altering : Type 0 where
-  pub layout : Layout
-  pub added : List Text
-  pub dropped : List Text
-
 abbrev pub is_among : List Text → Text → Bool
 is_among names name = list_any (λ n. same_name n name) names
 
@@ -46,9 +53,9 @@ is_among names name = list_any (λ n. same_name n name) names
 abbrev pub without_column : List Column → Text → List Column
 without_column columns name = filter (λ c. not (same_name c.name name)) columns
 
+-- a column behind the one of a name
 abbrev pub put_after : Text → Column → List Column → List Column
-put_after name column [] = column ∷ []
-put_after name column (c ∷ cs) = if same_name c.name name then c ∷ column ∷ cs else c ∷ put_after name column cs
+put_after name column columns = flat_map (λ c. if same_name c.name name then c ∷ column ∷ [] else c ∷ []) columns
 
 -- another column at its spot
 abbrev pub placed : Spot → Column → List Column → List Column
@@ -137,6 +144,22 @@ with_default read columns name text = option_and_then (λ c. option_map (with_ru
 
 -- The changes.
 
+abbrev pub adds : Change → Text → Bool
+adds (change.Add column spot) name = same_name column.name name
+adds c name = false
+
+abbrev pub drops : Change → Text → Bool
+drops (change.Drop dropped) name = same_name dropped name
+drops c name = false
+
+-- the changes before have added a column of this name
+abbrev pub was_added : List Change → Text → Bool
+was_added before name = list_any (λ c. adds c name) before
+
+-- the changes before have dropped a column of this name
+abbrev pub was_dropped : List Change → Text → Bool
+was_dropped before name = list_any (λ c. drops c name) before
+
 -- a column of the primary key stays NOT NULL
 abbrev pub modified_column : Layout → Column → Column
 modified_column layout column =
@@ -151,38 +174,38 @@ abbrev pub differs_in_family : Option Column → Column → Bool
 differs_in_family None after = false
 differs_in_family (Some before) after = not (comparable before.kind after.kind)
 
--- why a change has no effect, in the order of the faults
-abbrev pub refusals_of : Reading → Altering → Change → List (Bool × EffectFault)
-refusals_of read a (change.Add column spot) =
-    (not (stands a.layout.columns spot), fault.UnknownColumn)
-    ∷ (has_column a.layout.columns column.name, fault.ColumnExists)
-    ∷ (is_among a.dropped column.name, fault.Readd)
+-- why a change has no effect on a schema, behind those before it, in the order of the faults
+abbrev pub refusals_of : Reading → List Change → Layout → Change → List (Bool × EffectFault)
+refusals_of read before layout (change.Add column spot) =
+    (not (stands layout.columns spot), fault.UnknownColumn)
+    ∷ (has_column layout.columns column.name, fault.ColumnExists)
+    ∷ (was_dropped before column.name, fault.Readd)
     ∷ (has_no_fill (Some column), fault.NoFill)
     ∷ []
-refusals_of read a (change.Drop name) =
-    (not (has_column a.layout.columns name), fault.UnknownColumn)
-    ∷ (is_key_column a.layout name, fault.KeyColumn)
-    ∷ (is_among a.added name, fault.Readd)
+refusals_of read before layout (change.Drop name) =
+    (not (has_column layout.columns name), fault.UnknownColumn)
+    ∷ (is_key_column layout name, fault.KeyColumn)
+    ∷ (was_added before name, fault.Readd)
     ∷ []
-refusals_of read a (change.Modify column spot null_written) =
-    (null_written && is_among a.layout.primary column.name, fault.PrimaryChange)
-    ∷ (not (has_column a.layout.columns column.name && stands a.layout.columns spot), fault.UnknownColumn)
-    ∷ (differs_in_family (column_at a.layout.columns column.name) column, fault.FamilyChange)
-    ∷ (is_among a.added column.name && has_no_fill (Some column), fault.NoFill)
+refusals_of read before layout (change.Modify column spot null_written) =
+    (null_written && is_among layout.primary column.name, fault.PrimaryChange)
+    ∷ (not (has_column layout.columns column.name && stands layout.columns spot), fault.UnknownColumn)
+    ∷ (differs_in_family (column_at layout.columns column.name) column, fault.FamilyChange)
+    ∷ (was_added before column.name && has_no_fill (Some column), fault.NoFill)
     ∷ []
-refusals_of read a (change.SetDefault name text) =
-    (not (has_column a.layout.columns name), fault.UnknownColumn)
-    ∷ (is_among a.added name && has_no_fill (with_default read a.layout.columns name text), fault.NoFill)
-    ∷ (is_none (with_default read a.layout.columns name text), fault.Made schema_fault.DefaultUnfit)
+refusals_of read before layout (change.SetDefault name text) =
+    (not (has_column layout.columns name), fault.UnknownColumn)
+    ∷ (was_added before name && has_no_fill (with_default read layout.columns name text), fault.NoFill)
+    ∷ (is_none (with_default read layout.columns name text), fault.Made schema_fault.DefaultUnfit)
     ∷ []
-refusals_of read a (change.AddUnique key named) =
-    (list_any (λ n. not (has_column a.layout.columns n)) key.columns, fault.UnknownColumn)
-    ∷ (named && has_key a.layout.uniques key.name, fault.KeyExists)
+refusals_of read before layout (change.AddUnique key named) =
+    (not (all_columns layout.columns key.columns), fault.UnknownColumn)
+    ∷ (named && has_key layout.uniques key.name, fault.KeyExists)
     ∷ []
-refusals_of read a (change.DropKey name) = []
-refusals_of read a (change.RenameKey name) = (has_key a.layout.uniques name, fault.Renames) ∷ []
-refusals_of read a (change.Refused cause) = (true, cause) ∷ []
-refusals_of read a change.NoEffect = []
+refusals_of read before layout (change.DropKey name) = []
+refusals_of read before layout (change.RenameKey name) = (has_key layout.uniques name, fault.Renames) ∷ []
+refusals_of read before layout (change.Refused cause) = (true, cause) ∷ []
+refusals_of read before layout change.NoEffect = []
 
 abbrev pub with_columns : Layout → List Column → Layout
 with_columns layout columns = record { columns = columns; primary = layout.primary; uniques = layout.uniques }
@@ -203,14 +226,6 @@ changed read layout (change.RenameKey name) = layout
 changed read layout (change.Refused cause) = layout
 changed read layout change.NoEffect = layout
 
-abbrev pub added_by : Change → List Text
-added_by (change.Add column spot) = column.name ∷ []
-added_by _ = []
-
-abbrev pub dropped_by : Change → List Text
-dropped_by (change.Drop name) = name ∷ []
-dropped_by _ = []
-
 -- the schema, if it can be made
 abbrev pub made : Making → Layout → Result Layout EffectFault
 made make layout = by (make layout.columns layout.primary layout.uniques) where
@@ -218,30 +233,23 @@ made make layout = by (make layout.columns layout.primary layout.uniques) where
   by (Ok after) = Ok after
   by (Err e) = Err (fault.Made e)
 
--- one change
-abbrev pub step : Making → Reading → Altering → Change → Result Altering EffectFault
-step make read a c = by (first_refusal (refusals_of read a c)) (made make (changed read a.layout c)) where
-  by : Option EffectFault → Result Layout EffectFault → Result Altering EffectFault
-  by (Some e) after = Err e
-  by None (Err e) = Err e
-  by None (Ok layout) = Ok (record { layout = layout; added = added_by c ++ a.added; dropped = dropped_by c ++ a.dropped })
+-- one change, behind those before it
+abbrev pub step : Making → Reading → List Change → Layout → Change → Result Layout EffectFault
+step make read before layout c = by (first_refusal (refusals_of read before layout c)) where
+  by : Option EffectFault → Result Layout EffectFault
+  by (Some e) = Err e
+  by None = made make (changed read layout c)
 
 -- one change after another
-abbrev pub steps : Making → Reading → Result Altering EffectFault → List Change → Result Altering EffectFault
-steps make read a [] = a
-steps make read (Err e) (c ∷ cs) = Err e
-steps make read (Ok a) (c ∷ cs) = steps make read (step make read a c) cs
-
-abbrev pub effect_by : Making → Reading → Layout → List Change → Result Layout EffectFault
-effect_by make read layout changes = by (steps make read (Ok (record { layout = layout; added = []; dropped = [] })) changes) where
-  by : Result Altering EffectFault → Result Layout EffectFault
-  by (Ok a) = Ok a.layout
-  by (Err e) = Err e
+abbrev pub steps : Making → Reading → List Change → Result Layout EffectFault → List Change → Result Layout EffectFault
+steps make read before layout [] = layout
+steps make read before (Err e) (c ∷ cs) = Err e
+steps make read before (Ok layout) (c ∷ cs) = steps make read (before ++ c ∷ []) (step make read before layout c) cs
 
 -- the schema after a statement's changes, or the first fault
 unfoldable pub ddl_effect : Reading → Layout → List Change → Result Layout EffectFault
-ddl_effect read layout changes = effect_by schema_of read layout changes
+ddl_effect read layout changes = steps schema_of read [] (Ok layout) changes
 
 -- the same without the bound on columns, which a join of schemas may pass
 unfoldable pub joined_effect : Reading → Layout → List Change → Result Layout EffectFault
-joined_effect read layout changes = effect_by joined_schema_of read layout changes
+joined_effect read layout changes = steps joined_schema_of read [] (Ok layout) changes

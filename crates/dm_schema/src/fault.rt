@@ -1,3 +1,7 @@
+ghost use Rattle.std.specs.Prelude.{◌≡◌};
+
+use std::alloc::AllocError;
+
 /// Why a schema can't be made.
 #[derive(Clone, Copy, Debug, PartialEq, Eq)]
 pub enum SchemaFault {
@@ -39,4 +43,14 @@ pub enum EffectFault {
     KeyExists,
     Made(SchemaFault),
     Memory,
+}
+
+impl From<AllocError> for EffectFault {
+    ghost use Rattle.dm_schema.specs.declared.fault.EffectFault.TheVariants.{Memory};
+
+    ghost from_gives = { λ _ fault. fault ≡ Memory };
+
+    fn from(_error: AllocError) -> EffectFault {
+        EffectFault::Memory
+    }
 }

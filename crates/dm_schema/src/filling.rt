@@ -41,6 +41,26 @@ pub fn has_fill_for_missing(column: &Column) -> bool
     }
 }
 
+/// Whether rows that were there before the column get something in it.
+pub fn has_fill(column: &Column) -> bool
+    ensures { result ≡ is_some (fill column.now) }
+{
+    match column.default_rule {
+        DefaultRule::Const(_) => true,
+        DefaultRule::Nothing => column.nullable || has_zero(column.kind),
+        DefaultRule::Now => false,
+    }
+}
+
+fn has_zero(kind: Kind) -> bool
+    ensures { result ≡ is_some (zero_of kind) }
+{
+    !matches!(
+        kind,
+        Kind::Date | Kind::Year | Kind::Datetime(_) | Kind::Timestamp(_)
+    )
+}
+
 /// The zero of a kind. Days, years and moments have none.
 fn zero_of(alloc: Global, kind: Kind) -> Result<Option<Value>, AllocError>
     ensures { IfOk result (λ value. value ≡ zero_of kind) }

@@ -106,7 +106,8 @@ impl Schema {
     }
 
     pub fn primary(&self) -> &Names
-        ensures { result.now ≡ self.now.primary }
+        ensures primary { result.now ≡ self.now.primary }
+        ensures formed { IsTrue (is_formed self.now) }
     {
         &self.primary
     }
@@ -114,6 +115,7 @@ impl Schema {
     pub fn uniques(&self) -> &[UniqueKey]
         ensures uniques { result.now ≡ self.now.uniques }
         ensures few { length result.now ≤ 16 }
+        ensures formed { IsTrue (is_formed self.now) }
     {
         self.uniques.as_slice()
     }
@@ -150,13 +152,15 @@ impl Copied for Schema {
     }
 }
 
-fn has_column(columns: &[Column], name: &Name) -> bool
+/// Whether a column has the name.
+pub fn has_column(columns: &[Column], name: &Name) -> bool
     ensures { result ≡ has_column columns.now name.now }
 {
     columns.iter().any(|column| column.name == *name)
 }
 
-fn all_columns(columns: &[Column], names: &[Name]) -> bool
+/// Whether each name is a column's.
+pub fn all_columns(columns: &[Column], names: &[Name]) -> bool
     ensures { result ≡ all_columns columns.now names.now }
 {
     names.iter().all(|name| has_column(columns, name))
