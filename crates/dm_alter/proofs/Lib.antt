@@ -1,0 +1,4 @@
+pub mod Examples
+pub mod Formed
+pub mod FreeNames
+pub mod Steps
