@@ -1,5 +1,5 @@
 use crate::{
-    Journal, JournalError, MemoryJournal, MemoryShelf, MemorySink, Shelf, ShelfError, Sink,
+    Cursor, Journal, JournalError, MemoryJournal, MemoryShelf, MemorySink, Shelf, ShelfError, Sink,
     SinkError,
 };
 use std::alloc::Global;
@@ -95,5 +95,32 @@ fn journal_keeps_what_it_is_told_to(rt: HostRuntime) -> Result<(), Fail> {
     // The list of what failing appends keep is at its end.
     assert_eq!(rt; append(&mut journal, b"w"), Err(JournalError::Failed));
     assert_eq!(rt; journal.bytes(), b"hello1".as_slice());
+    Ok(())
+}
+
+#[test]
+fn cursor_reads_numbers(rt: HostRuntime) -> Result<(), Fail> {
+    let mut cursor = Cursor::new(b"\x01\x02\x01\x02\x03xyz");
+    assert_eq!(rt; cursor.le(2), Some(513));
+    assert_eq!(rt; cursor.be(3), Some(66_051));
+    assert_eq!(rt; cursor.le(4), None);
+    assert_eq!(rt; cursor.place(), 5);
+    assert_eq!(rt; cursor.take(2), Some(b"xy".as_slice()));
+    assert_eq!(rt; cursor.left(), b"z".as_slice());
+    Ok(())
+}
+
+fn lenenc(bytes: &[u8]) -> Option<u64> {
+    Cursor::new(bytes).lenenc()
+}
+
+#[test]
+fn cursor_reads_encoded_lengths(rt: HostRuntime) -> Result<(), Fail> {
+    assert_eq!(rt; lenenc(b"\xfa"), Some(250));
+    assert_eq!(rt; lenenc(b"\xfc\xfb\0"), Some(251));
+    assert_eq!(rt; lenenc(b"\xfd\0\0\x01"), Some(65_536));
+    assert_eq!(rt; lenenc(b"\xfe\0\0\0\0\0\0\0\x01"), Some(1 << 56));
+    assert_eq!(rt; lenenc(b"\xfb"), None);
+    assert_eq!(rt; lenenc(b"\xff"), None);
     Ok(())
 }
