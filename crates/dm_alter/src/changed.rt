@@ -1,6 +1,7 @@
 ghost use Rattle.std.specs.Prelude.{◌≡◌, IfOk, IsTrue};
 ghost use Rattle.std.specs.List.{list_all};
 ghost use Rattle.dm_schema.specs.Kinds.{is_column, is_key};
+ghost use Rattle.dm_schema.specs.Layout.{Layout};
 ghost use Rattle.dm_schema.specs.Effect.{Reading, is_change, changed, made, modified_column};
 ghost use Rattle.dm_alter.specs.Making.{layout_of, making_of};
 
@@ -60,7 +61,7 @@ pub fn changed<R: DefaultReading>(
 {
     let primary = schema.primary().copy(alloc)?;
     let columns = columns_after(alloc, reading, schema, change)?;
-    let uniques = uniques_after(alloc, schema, change)?;
+    let uniques = uniques_after(alloc, schema.uniques(), change)?;
     Ok(Parts {
         columns,
         primary,
@@ -100,21 +101,22 @@ fn columns_after<R: DefaultReading>(
 
 fn uniques_after(
     alloc: Global,
-    schema: &Schema,
+    uniques: &[UniqueKey],
     change: &Change,
 ) -> Result<Vec<UniqueKey>, AllocError>
-    ensures { IfOk result (λ uniques. (reads : Reading) → uniques.items ≡ (changed reads schema.now change.now).uniques) }
+    ensures { IfOk result (λ after. (reads : Reading) (layout : Layout) → layout.uniques ≡ uniques.now
+        → after.items ≡ (changed reads layout change.now).uniques) }
 {
     match change {
-        Change::AddUnique { key, named } => with_key(alloc, schema.uniques(), key, *named),
-        Change::DropKey { name } => without_key(alloc, schema.uniques(), name),
+        Change::AddUnique { key, named } => with_key(alloc, uniques, key, *named),
+        Change::DropKey { name } => without_key(alloc, uniques, name),
         Change::Add { .. }
         | Change::Drop { .. }
         | Change::Modify { .. }
         | Change::SetDefault { .. }
         | Change::RenameKey { .. }
         | Change::Refused { .. }
-        | Change::NoEffect => copied(alloc, schema.uniques()),
+        | Change::NoEffect => copied(alloc, uniques),
     }
 }
 

@@ -14,6 +14,8 @@ mod row_change;
 mod rows;
 mod schema;
 mod table_name;
+#[cfg(test)]
+mod tests;
 
 pub use change::{Change, Spot};
 pub use column::{Column, DefaultRule, Kind, UniqueKey};

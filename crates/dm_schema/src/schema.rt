@@ -106,8 +106,7 @@ impl Schema {
     }
 
     pub fn primary(&self) -> &Names
-        ensures primary { result.now ≡ self.now.primary }
-        ensures formed { IsTrue (is_formed self.now) }
+        ensures { result.now ≡ self.now.primary }
     {
         &self.primary
     }

@@ -1,4 +1,5 @@
--- Laws of what is printed: of dumps that stand together each row is there under its key, and no other row is.
+-- Laws of what is printed: of dumps that go together each row is in the map under its key, and as many rows are printed as
+-- the dumps have.
 use Rattle.std.proofs.Common.{◌≡◌, ℕ, ◌+◌, Bool, true, false, cond, ◌||◌, not, List, [], ◌∷◌, ◌++◌, length, map, fold, Some, is_some, refl, sym, ap, ◌∙◌, append_assoc, append-nil}
 use Rattle.std.specs.FinMap as fin
 use Rattle.std.specs.FinMap.{FinMap, contains_key-keys, get-insert, len-empty, len-entries, len-insert}
