@@ -1,4 +1,11 @@
+pub mod AddedColumns
+pub mod Allowed
+pub mod Comparables
 pub mod Examples
 pub mod Formed
 pub mod FreeNames
+pub mod Inductions
+pub mod KeptColumns
+pub mod Laws
+pub mod Lookups
 pub mod Steps
