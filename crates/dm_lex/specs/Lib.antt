@@ -1,0 +1,4 @@
+pub mod Held
+pub mod Lexemes
+pub mod Literals
+pub mod Tokens
