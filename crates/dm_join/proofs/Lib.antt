@@ -1,0 +1,16 @@
+pub mod Lists
+pub mod NameLemmas
+pub mod NameSetLemmas
+pub mod GroupLemmas
+pub mod Exact
+pub mod Formed
+pub mod Orders
+pub mod JoinColumns
+pub mod JoinFormed
+pub mod JoinAnswers
+pub mod KindLaws
+pub mod AtMostLaws
+pub mod JoinLaws
+pub mod Table
+pub mod AlterationLaws
+pub mod EffectLaws

@@ -1,0 +1,5 @@
+pub mod Alteration
+pub mod AtMost
+pub mod Groups
+pub mod Join
+pub mod NameSet
