@@ -1,0 +1,6 @@
+pub mod Bounds
+pub mod Groups
+pub mod Laws
+pub mod Steps
+pub mod Vectors
+pub mod Whole
