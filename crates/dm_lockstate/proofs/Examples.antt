@@ -1,5 +1,5 @@
 -- Offers of two shards that begin with `id` INT NOT NULL PRIMARY KEY, `v` INT, as computed by the definition.
-use Rattle.std.proofs.Common.{◌≡◌, ℕ, Bool, true, false, List, [], ◌∷◌, Option, Some, None, Result, Ok, Err, refl}
+use Rattle.std.proofs.Common.{◌≡◌, ℕ, Bool, true, false, List, [], ◌∷◌, Result, Ok, Err, refl}
 use Rattle.std.specs.Prelude.{codes, pos}
 use Rattle.dm_value.specs.declared.value.Value.TheVariants as value
 use Rattle.dm_schema.specs.declared.column.Kind.{Kind}
@@ -8,7 +8,6 @@ use Rattle.dm_schema.specs.declared.column.Column.{Column}
 use Rattle.dm_schema.specs.declared.column.DefaultRule.{DefaultRule}
 use Rattle.dm_schema.specs.declared.column.DefaultRule.TheVariants as default
 use Rattle.dm_schema.specs.Layout.{Layout}
-use Rattle.dm_schema.specs.Names.{column_at}
 use Rattle.dm_join.specs.declared.no_join.NoJoin.{NoJoin}
 use Rattle.dm_join.specs.Join.{join}
 use Rattle.dm_lockstate.specs.declared.stop.Stop.{Stop}

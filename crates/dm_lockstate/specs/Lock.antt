@@ -1,5 +1,5 @@
 -- The lock machine of a target table: which new schemas of its shards are accepted.
-use Rattle.std.specs.Prelude.{ℕ, ◌==◌, Bool, true, false, not, ◌&&◌, ◌||◌, List, [], ◌∷◌, ◌++◌, map, Option, Some, None, Result, Ok, Err, slice_set, slice_index_or}
+use Rattle.std.specs.Prelude.{ℕ, ◌==◌, Bool, true, false, not, ◌&&◌, ◌||◌, List, [], ◌++◌, map, Option, Some, None, Result, Ok, Err, slice_set, slice_index_or}
 use Rattle.std.specs.Option.{option_or, option_and_then}
 use Rattle.std.specs.List.{list_any, list_all, filter}
 use Rattle.dm_list.specs.Answer.{first_refusal, unless_refused}
@@ -11,7 +11,6 @@ use Rattle.dm_schema.specs.Names.{Text, same_name, column_at, column_names, has_
 use Rattle.dm_schema.specs.NameOrder.{columns_in_order}
 use Rattle.dm_schema.specs.Fill.{fill}
 use Rattle.dm_schema.specs.KindOrder.{kind_at_most, same_kind}
-use Rattle.dm_schema.specs.Schemas.{same_column}
 use Rattle.dm_join.specs.declared.no_join.NoJoin.{NoJoin}
 use Rattle.dm_join.specs.declared.no_join.NoJoin.TheVariants as no_join
 use Rattle.dm_join.specs.Join.{join}

@@ -7,6 +7,8 @@ mod judging;
 mod points;
 mod state;
 mod stop;
+#[cfg(test)]
+mod tests;
 
 pub use state::{Dropped, LockState};
 pub use stop::Stop;

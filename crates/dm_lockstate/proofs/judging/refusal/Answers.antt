@@ -1,4 +1,4 @@
-use Rattle.std.proofs.Common.{refl, sym, ap, ◌∙◌, Some, None}
+use Rattle.std.proofs.Common.{sym, ap, ◌∙◌, Some, None}
 use Rattle.std.specs.Option.{option_or}
 use Rattle.dm_schema.specs.NameOrder.{columns_in_order}
 use Rattle.dm_lockstate.specs.declared.judging.Point.TheVariants as point
