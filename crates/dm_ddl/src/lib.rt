@@ -1,0 +1,20 @@
+//! The statements that define tables: their heads, and the schemas and changes that they say.
+#![tactic(auto)]
+
+mod class;
+mod classes;
+mod fault;
+mod heads;
+mod kinds;
+mod names;
+mod parsing;
+mod piece;
+mod productions;
+mod reading;
+mod role;
+mod terminal;
+mod words;
+
+pub use fault::DdlFault;
+pub use heads::{Head, read_head};
+pub use names::{Named, Tables};
