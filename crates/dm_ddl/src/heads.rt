@@ -7,7 +7,7 @@ ghost use Rattle.dm_ddl.specs.Parsing.{is_memory, OrMemory, Says};
 
 use crate::fault::DdlFault;
 use crate::names::{Named, Tables, first_table, tables_in};
-use crate::parsing::{Extent, Parsed, parse};
+use crate::parsing::{Extent, parse};
 use crate::piece::{Piece, has_role};
 use crate::role;
 use std::alloc::{AllocError, Global};
@@ -41,10 +41,10 @@ pub fn read_head(alloc: Global, text: &[u8]) -> Result<Head, DdlFault>
     // Each head is read, and says nothing else.
     ensures each { (head : Head) → Says extent.Head (head_unless text.now) text.now (Ok head) → Answers is_memory result (Ok head) }
 {
-    let Parsed { pieces, fault } = parse(alloc, text, Extent::Head)?;
-    match fault {
+    let parsed = parse(alloc, text, Extent::Head)?;
+    match parsed.fault {
         Some(fault) => Err(fault),
-        None => Ok(head_of(alloc, text, &pieces)?),
+        None => Ok(head_of(alloc, text, &parsed.pieces)?),
     }
 }
 

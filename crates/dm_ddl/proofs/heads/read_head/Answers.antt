@@ -10,7 +10,7 @@ use Rattle.dm_ddl.proofs.heads.read_head.Goals as goal
 pub returns-clause-each : goal.returns-clause-each
 returns-clause-each c = λ head says.
     let text = c.args.text.now in
-    let one = only_answer extent.Head text (head_unless text) c.in_ok-pieces.field-0.pieces.items c.in_ok-pieces.field-0.fault (λ pieces fault value e. absurd cc) c.in_ok-pieces.ensures.each head says in
-    let found : ◌≡◌ {A = Result Head DdlFault} (Ok c.in_ok-head_of-in-None.field-0) (Ok (head_of text c.in_ok-pieces.field-0.pieces.items)) =
-        ap (λ (h : Head). Ok h) (c.in_ok-head_of-in-None.ensures ∙ ap (head_of text) (c.deref.ensures.value ∙ ap (λ v. v.items) c.in_ok-pieces.pieces-is)) in
+    let one = only_answer extent.Head text (head_unless text) c.in_ok-parsed.parsed.pieces.items c.in_ok-parsed.parsed.fault (λ pieces fault value e. absurd cc) c.in_ok-parsed.ensures.each head says in
+    let found : ◌≡◌ {A = Result Head DdlFault} (Ok c.in_ok-head_of-in-None.field-0) (Ok (head_of text c.in_ok-parsed.parsed.pieces.items)) =
+        ap (λ (h : Head). Ok h) (c.in_ok-head_of-in-None.ensures ∙ ap (head_of text) c.deref.ensures.value) in
     found ∙ sym one.1
