@@ -1,6 +1,7 @@
 //! The statements that define tables: their heads, and the schemas and changes that they say.
 #![tactic(auto)]
 
+mod bounds;
 mod class;
 mod classes;
 mod fault;
