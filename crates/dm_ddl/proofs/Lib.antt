@@ -1,5 +1,7 @@
 pub mod Answering
+pub mod Formed
 pub mod Numbers
 pub mod PartsLemmas
+pub mod Ranges
 pub mod Ready
 pub mod Terminals

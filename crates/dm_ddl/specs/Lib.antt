@@ -1,8 +1,11 @@
 pub mod Bounds
 pub mod Classes
+pub mod Columns
 pub mod Heads
+pub mod Keys
 pub mod Names
 pub mod Parsing
 pub mod Pieces
 pub mod Productions
+pub mod Types
 pub mod Words

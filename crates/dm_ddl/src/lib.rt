@@ -4,8 +4,10 @@
 mod bounds;
 mod class;
 mod classes;
+mod columns;
 mod fault;
 mod heads;
+mod keys;
 mod kinds;
 mod names;
 mod parsing;
@@ -14,6 +16,7 @@ mod productions;
 mod reading;
 mod role;
 mod terminal;
+mod types;
 mod words;
 
 pub use fault::DdlFault;
