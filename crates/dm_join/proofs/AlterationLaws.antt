@@ -79,15 +79,15 @@ pub alteration_of_equals : (a b : Layout) → IsTrue (is_formed a) → schema_eq
 alteration_of_equals a b formed e = none_between a b formed
     (record { columns = alike_in_order column_name a.columns b.columns columns; keys = alike_in_order unique_name a.uniques b.uniques keys })
     (record { columns = alike_in_order column_name b.columns a.columns (sym columns); keys = alike_in_order unique_name b.uniques a.uniques (sym keys) }) where
-  parts : ((pointwise same_column (columns_in_order a.columns) (columns_in_order b.columns) && pointwise same_name a.primary b.primary) ≡ true)
-      × (pointwise same_unique (uniques_in_order a.uniques) (uniques_in_order b.uniques) ≡ true)
-  parts = and_parts (pointwise same_column (columns_in_order a.columns) (columns_in_order b.columns) && pointwise same_name a.primary b.primary) (pointwise same_unique (uniques_in_order a.uniques) (uniques_in_order b.uniques)) e
+      parts : ((pointwise same_column (columns_in_order a.columns) (columns_in_order b.columns) && pointwise same_name a.primary b.primary) ≡ true)
+          × (pointwise same_unique (uniques_in_order a.uniques) (uniques_in_order b.uniques) ≡ true)
+      parts = and_parts (pointwise same_column (columns_in_order a.columns) (columns_in_order b.columns) && pointwise same_name a.primary b.primary) (pointwise same_unique (uniques_in_order a.uniques) (uniques_in_order b.uniques)) e
 
-  columns : columns_in_order a.columns ≡ columns_in_order b.columns
-  columns = same_elements same_column column_exact (columns_in_order a.columns) (columns_in_order b.columns) (and_parts (pointwise same_column (columns_in_order a.columns) (columns_in_order b.columns)) (pointwise same_name a.primary b.primary) parts.0).0
+      columns : columns_in_order a.columns ≡ columns_in_order b.columns
+      columns = same_elements same_column column_exact (columns_in_order a.columns) (columns_in_order b.columns) (and_parts (pointwise same_column (columns_in_order a.columns) (columns_in_order b.columns)) (pointwise same_name a.primary b.primary) parts.0).0
 
-  keys : uniques_in_order a.uniques ≡ uniques_in_order b.uniques
-  keys = same_elements same_unique unique_exact (uniques_in_order a.uniques) (uniques_in_order b.uniques) parts.1
+      keys : uniques_in_order a.uniques ≡ uniques_in_order b.uniques
+      keys = same_elements same_unique unique_exact (uniques_in_order a.uniques) (uniques_in_order b.uniques) parts.1
 
 both_empty : {A : Type 0} (xs ys : List A) → xs ++ ys ≡ [] → (xs ≡ []) × (ys ≡ [])
 both_empty [] ys e = (refl, e)
