@@ -330,12 +330,19 @@ pub record IsLock (lock : Lock) : Type 0 where
   pub some : 0 < length lock.schemas
   pub formed : IsTrue (are_formed lock.schemas)
   pub joined : join lock.schemas ≡ Ok lock.joined
+  pub downstream : (p : Dropped) → IsIn p lock.dropped → has_column lock.joined.columns p.column ≡ true
   pub lacked : AreLacked lock
 
 pub begun_is_lock : (schemas : List Layout) (lock : Lock) → 0 < length schemas → IsTrue (are_formed schemas) → first schemas ≡ Ok lock → IsLock lock
 begun_is_lock schemas lock some formed e =
     let b = begun schemas lock e in
-    record { some = subst (λ l. 0 < length l) (sym b.schemas) some; formed = subst (λ l. are_formed l ≡ true) (sym b.schemas) formed; joined = b.joined; lacked = begun_lacked schemas lock e }
+    record {
+      some = subst (λ l. 0 < length l) (sym b.schemas) some;
+      formed = subst (λ l. are_formed l ≡ true) (sym b.schemas) formed;
+      joined = b.joined;
+      downstream = λ p i. absurd (subst (IsIn p) b.dropped i);
+      lacked = begun_lacked schemas lock e;
+    }
 
 replaced_formed : (schemas : List Layout) (member : ℕ) (s : Layout) → are_formed schemas ≡ true → is_formed s ≡ true → are_formed (slice_set schemas member s) ≡ true
 unfolding are_formed
@@ -351,6 +358,7 @@ accepted_is_lock lock member schema after h lt formed e =
       some = subst (λ l. 0 < length l) (sym a.schemas) (subst (λ n. 0 < n) (sym (length-set lock.schemas member schema)) h.some);
       formed = subst (λ l. are_formed l ≡ true) (sym a.schemas) (replaced_formed lock.schemas member schema h.formed formed);
       joined = a.joined;
+      downstream = pairs_are_joined lock member schema after e;
       lacked = pairs_are_lacked lock member schema after lt h.lacked e;
     }
 

@@ -18,7 +18,7 @@ use Rattle.dm_join.proofs.Lists.{IsIn, any_of, any_from}
 use Rattle.dm_join.proofs.Orders.{found_column}
 use Rattle.dm_join.proofs.JoinAnswers.{join_is_formed}
 use Rattle.dm_join.proofs.KindLaws.{kind_reflexive, kind_transitive}
-use Rattle.dm_join.proofs.Laws.{HasFrom, joined_from, column_above, kinds_above_one, replaced_here, replaced_from, replaced_stays}
+use Rattle.dm_join.proofs.Laws.{HasFrom, joined_from, joined_above, column_above, kinds_above_one, replaced_here, replaced_from, replaced_stays}
 use Rattle.dm_join.proofs.Widening.{fits_grows, fits_above, fill_fits}
 use Rattle.dm_join.proofs.Exact.{kind_exact}
 use Rattle.dm_lockstate.specs.declared.state.Dropped.{Dropped}
@@ -93,6 +93,25 @@ fills_stay lock member schema after before behind o altered fills m name now v l
   by (Some c) was =
       sym (lacked_fill_stays lock member schema after name c now (recorded after m) o.goes was is (recorded_there after.schemas m lt) lacks)
       ∙ fills m name c v within was (lacked_before lock member schema after m name now o is lacks free) (undropped lock member schema after m name now o.goes is free) (altered.kept m name c v was holds)
+
+-- A column that is new in the join comes to the shard that offers: it lacked the column, and has it now.
+pub new_is_gained : (lock : Lock) (member : ℕ) (schema : Layout) (after : Lock) (name : Text) (now : Column) → Offering lock member schema after → column_at lock.joined.columns name ≡ None → column_at after.joined.columns name ≡ Some now
+    → (own : Column) × (column_at (recorded lock member).columns name ≡ None) × (column_at schema.columns name ≡ Some own)
+new_is_gained lock member schema after name now o none is = by (replaced_from lock.schemas member schema to.schema (subst (IsIn to.schema) (accepted lock member schema after o.goes).schemas to.there)) where
+  to : HasFrom after.schemas name
+  to = joined_from after.schemas after.joined name now (next_lock lock member schema after o).joined is
+
+  -- no schema of the old lock has it
+  none_had : (s : Layout) (d : Column) → IsIn s lock.schemas → column_at s.columns name ≡ Some d → ⊥
+  none_had s d i at = cc (sym none ∙ (joined_above lock.schemas lock.joined s name d o.is_lock.formed o.is_lock.joined i at).at)
+
+  lacked : (c : Option Column) → column_at (recorded lock member).columns name ≡ c → c ≡ None
+  lacked None had = refl
+  lacked (Some d) had = absurd (none_had (recorded lock member) d (recorded_there lock.schemas member o.within) had)
+
+  by : (schema ≡ to.schema) ⊎ IsIn to.schema lock.schemas → (own : Column) × (column_at (recorded lock member).columns name ≡ None) × (column_at schema.columns name ≡ Some own)
+  by (inl new) = (to.column, lacked (column_at (recorded lock member).columns name) refl, ap (λ (l : Layout). column_at l.columns name) new ∙ to.at)
+  by (inr there) = absurd (none_had to.schema to.column there to.at)
 
 -- In a column that comes to the shard its rows hold the fill of the shard's own column.
 pub gained_is_held : (lock : Lock) (member : ℕ) (schema : Layout) (after : Lock) (before behind : Holding) (name : Text) (own now : Column) (v : Value) → Offering lock member schema after → Altered lock.joined after.joined before behind
