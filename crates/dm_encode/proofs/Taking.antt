@@ -51,3 +51,6 @@ ends_both {A} {B} done reader own x next more y first second = record { reads = 
 
 pub ends_just : {A : Type 0} (done left : List ℕ) (x : A) → Ends done (just x) left x
 ends_just done left x = record { reads = refl }
+
+pub ends_nil : {A : Type 0} (done : List ℕ) (reader : Reader A) (own : List ℕ) (x : A) → Ends done reader own x → Ends done reader (own ++ []) x
+ends_nil {A} done reader own x ends = record { reads = rw append-nil ends.reads }

@@ -1,9 +1,14 @@
 -- Events, field by field as MySQL's manual of internals gives them. Numbers have their lowest byte first.
 use Rattle.std.specs.Prelude.{ℕ, ◌+◌, ◌==◌, List, [], ◌∷◌, ◌++◌, length, map, replicate, if◌then◌else◌}
-use Rattle.std.specs.List.{concat, list_any, range_with_len}
+use Rattle.std.specs.List.{concat, flat_map, list_any, range_with_len}
+use Rattle.dm_schema.specs.declared.column.Column.{Column}
+use Rattle.dm_schema.specs.Layout.{Layout}
+use Rattle.dm_binlog.specs.declared.bodies.ColumnMap.{ColumnMap}
 use Rattle.dm_binlog.specs.Framing.{header_length}
-use Rattle.dm_binlog.specs.declared.event.TheConstants.{FORMAT_DESCRIPTION, QUERY}
-use Rattle.dm_encode.specs.Numbers.{le_bytes}
+use Rattle.dm_binlog.specs.declared.event.TheConstants.{FORMAT_DESCRIPTION, QUERY, TABLE_MAP}
+use Rattle.dm_encode.specs.Numbers.{le_bytes, lenenc_bytes}
+use Rattle.dm_encode.specs.Bitmaps.{bitmap}
+use Rattle.dm_encode.specs.Kinds.{column_map, metadata_bytes}
 
 -- what isn't read is written so, in so many bytes
 abbrev pub zeros : ℕ → List ℕ
@@ -48,3 +53,34 @@ query_body db statement = concat (zeros 4 ∷ zeros 4 ∷ le_bytes 1 (length db)
 
 abbrev pub query_event : List ℕ → List ℕ → List ℕ
 query_event db statement = event QUERY (query_body db statement)
+
+-- TABLE_MAP_EVENT
+
+-- a name behind its length, with a 0 byte behind it
+abbrev pub counted : List ℕ → List ℕ
+counted name = concat (le_bytes 1 (length name) ∷ name ∷ zeros 1 ∷ [])
+
+abbrev pub codes_of : List Column → List ℕ
+codes_of columns = map (λ c. (column_map c.kind).code) columns
+
+abbrev pub metadata_of : List Column → List ℕ
+metadata_of columns = flat_map (λ c. metadata_bytes (column_map c.kind)) columns
+
+-- the flags of map and rows bodies
+abbrev pub flags : List ℕ
+flags = le_bytes 2 1
+
+-- column count, a type code for each column, metadata behind their length, a bit for each nullable column
+abbrev pub columns_body : List Column → List ℕ
+columns_body columns = concat (lenenc_bytes (length columns) ∷ codes_of columns ∷ lenenc_bytes (length (metadata_of columns)) ∷ metadata_of columns ∷ bitmap (map (λ c. c.nullable) columns) ∷ [])
+
+-- table id, flags, schema, table, columns
+abbrev pub map_body : ℕ → List ℕ → List ℕ → Layout → List ℕ
+map_body id db table layout = concat (le_bytes 6 id ∷ flags ∷ counted db ∷ counted table ∷ columns_body layout.columns ∷ [])
+
+abbrev pub map_event : ℕ → List ℕ → List ℕ → Layout → List ℕ
+map_event id db table layout = event TABLE_MAP (map_body id db table layout)
+
+-- the column maps of the schema's columns
+abbrev pub maps_of : List Column → List ColumnMap
+maps_of columns = map (λ c. column_map c.kind) columns
