@@ -4,3 +4,7 @@ pub mod Bodies
 pub mod Bits
 pub mod MapsBack
 pub mod Rests
+pub mod Shapes
+pub mod Lengths
+pub mod GroupsBack
+pub mod Spelling

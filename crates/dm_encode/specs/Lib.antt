@@ -1,5 +1,7 @@
 pub mod Numbers
 pub mod Bitmaps
 pub mod Kinds
+pub mod Decimals
+pub mod Values
 pub mod Events
 pub mod ReadBack

@@ -2,10 +2,14 @@
 #![tactic(auto)]
 
 mod bitmaps;
+mod decimals;
 mod events;
+mod integers;
 mod kinds;
 mod maps;
 mod numbers;
+mod times;
+mod values;
 
 pub use events::{write_format, write_query};
 pub use maps::write_map;
