@@ -1,9 +1,11 @@
 -- Bitmaps, and the bits that are read of them.
-use Rattle.std.proofs.Common.{◌≡◌, ℕ, zero, suc, ◌+◌, ◌*◌, ◌/◌, ◌%◌, ◌^◌, ◌<◌, ◌≤◌, Bool, true, false, List, [], ◌∷◌, ◌++◌, ◌==◌, length, take, drop, min, refl, sym, ◌∙◌, arith, lit<, length-take, length-drop, append_assoc, append-nil}
+use Rattle.std.proofs.Common.{◌≡◌, ℕ, zero, suc, ◌+◌, ◌*◌, ◌/◌, ◌%◌, ◌^◌, ◌<◌, ◌≤◌, Bool, true, false, List, [], ◌∷◌, ◌++◌, ◌==◌, length, take, drop, map, get_or, min, refl, sym, ◌∙◌, arith, lit<, length-take, length-drop, append_assoc, append-nil}
 use Rattle.std.proofs.Math.Nat.{pow-succ', pow-le-pow_right}
-use Rattle.std.proofs.lemmas.List.{take_min, drop_min, nil_from_length}
+use Rattle.std.proofs.lemmas.List.{take_min, drop_min, nil_from_length, length-map}
+use Rattle.std.proofs.lemmas.Nat.{shr-shr}
+use Rattle.std.specs.List.{list_all, range_with_len}
 use Rattle.std.proofs.lemmas.Bool.{eqb-true}
-use Rattle.dm_binlog.specs.Bodies.{bitmap_length}
+use Rattle.dm_binlog.specs.Bodies.{all_set, bitmap_length, is_set}
 use Rattle.dm_encode.specs.Numbers.{le_bytes}
 use Rattle.dm_encode.specs.Bitmaps.{bit, bitmap, bits_value}
 use Rattle.dm_encode.proofs.Digits.{length-le}
@@ -66,3 +68,70 @@ bitmap_more rest own behind count byte before more all empty told some count_is 
 
 pub bitmap_last : (rest : List Bool) (bytes all : List ℕ) (empty : Bool) → empty ≡ (length rest == 0) → empty ≡ true → bytes ++ bitmap rest ≡ all → bytes ≡ all
 bitmap_last rest bytes all empty told none known = rw (none_left rest (sym told ∙ none), bitmap_none, append-nil) at known
+
+-- The bits that are read of a bitmap are those that were written.
+
+bit_of : (b : Bool) (v i : ℕ) → (bit b + 2 * v) / 2 ^ suc i ≡ v / 2 ^ i
+bit_of b v i =
+    let half : (bit b + 2 * v) / 2 ^ 1 ≡ v = half_of b v in
+    let one : suc i ≡ 1 + i = omega arith in
+    rw (one, ← shr-shr (bit b + 2 * v) 1 i, half) refl where
+      half_of : (b : Bool) (v : ℕ) → (bit b + 2 * v) / 2 ^ 1 ≡ v
+      half_of true v = omega arith
+      half_of false v = omega arith
+
+first_bit : (b : Bool) (v : ℕ) → (bit b + 2 * v) / 2 ^ 0 % 2 ≡ bit b
+first_bit true v = omega arith
+first_bit false v = omega arith
+
+value_bit : (bits : List Bool) (i : ℕ) → i < length bits → bits_value bits / 2 ^ i % 2 ≡ bit (get_or bits i false)
+value_bit [] i within = absurd (omega arith)
+value_bit (b ∷ bs) zero within = first_bit b (bits_value bs)
+value_bit (b ∷ bs) (suc i) within = rw (bit_of b (bits_value bs) i) (value_bit bs i (omega arith))
+
+byte_at : (width n k : ℕ) → k < width → get_or (le_bytes width n) k 0 ≡ n / 2 ^ (8 * k) % 256
+unfolding le_bytes
+byte_at zero n k within = absurd (omega arith)
+byte_at (suc width) n zero within = omega arith
+byte_at (suc width) n (suc k) within =
+    let eight : 8 * suc k ≡ 8 + 8 * k = omega arith in
+    byte_at width (n / 256) k (omega arith) ∙ rw (eight, ← shr-shr n 8 (8 * k)) refl
+
+low_bit : (m j : ℕ) → j < 8 → m % 256 / 2 ^ j % 2 ≡ m / 2 ^ j % 2
+low_bit m zero few = omega arith
+low_bit m (suc zero) few = omega arith
+low_bit m (suc (suc zero)) few = omega arith
+low_bit m (suc (suc (suc zero))) few = omega arith
+low_bit m (suc (suc (suc (suc zero)))) few = omega arith
+low_bit m (suc (suc (suc (suc (suc zero))))) few = omega arith
+low_bit m (suc (suc (suc (suc (suc (suc zero)))))) few = omega arith
+low_bit m (suc (suc (suc (suc (suc (suc (suc zero))))))) few = omega arith
+low_bit m (suc (suc (suc (suc (suc (suc (suc (suc n)))))))) few = absurd (omega arith)
+
+is_one : (b : Bool) → (bit b == 1) ≡ b
+is_one true = refl
+is_one false = refl
+
+pub bit_is : (bits : List Bool) (i : ℕ) → i < length bits → is_set (bitmap bits) i ≡ get_or bits i false
+unfolding bitmap
+bit_is bits i within =
+    let byte = byte_at (bitmap_length (length bits)) (bits_value bits) (i / 8) (omega arith) in
+    let whole : 8 * (i / 8) + i % 8 ≡ i = omega arith in
+    let low = low_bit (bits_value bits / 2 ^ (8 * (i / 8))) (i % 8) (omega arith) in
+    rw (byte, low, shr-shr (bits_value bits) (8 * (i / 8)) (i % 8), whole, value_bit bits i within) (is_one (get_or bits i false))
+
+-- A bitmap of nothing but ones has them all set.
+
+ones_at : {A : Type 0} (xs : List A) (i : ℕ) → i < length xs → get_or (map (λ x. true) xs) i false ≡ true
+ones_at [] i within = absurd (omega arith)
+ones_at (x ∷ xs) zero within = refl
+ones_at (x ∷ xs) (suc i) within = ones_at xs i (omega arith)
+
+range_all : (test : ℕ → Bool) (from count : ℕ) → ((i : ℕ) → i < from + count → test i ≡ true) → list_all test (range_with_len from count) ≡ true
+range_all test from zero each = refl
+range_all test from (suc count) each = rw (each from (omega arith), range_all test (from + 1) count (λ i within. each i (omega arith))) refl
+
+pub ones_set : {A : Type 0} (xs : List A) → all_set (length xs) (bitmap (map (λ x. true) xs)) ≡ true
+ones_set {A} xs =
+    range_all (is_set (bitmap (map (λ x. true) xs))) 0 (length xs)
+    (λ i within. bit_is (map (λ x. true) xs) i (rw (length-map xs (λ x. true)) (omega arith)) ∙ ones_at xs i (omega arith))

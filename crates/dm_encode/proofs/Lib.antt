@@ -8,3 +8,4 @@ pub mod Shapes
 pub mod Lengths
 pub mod GroupsBack
 pub mod Spelling
+pub mod RowsBack

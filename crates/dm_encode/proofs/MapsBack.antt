@@ -60,7 +60,7 @@ takes_byte : (b : ℕ) → b % 256 ≡ b → b < 256 → Takes (le 1) (b ∷ [])
 unfolding le_bytes
 takes_byte b same small = let P : List ℕ → Type 0 = λ own. Takes (le 1) own b in subst P (ap (λ n. n ∷ []) same) (takes_le 1 b small)
 
-takes_lenenc : (n : ℕ) → n < 2 ^ 64 → Takes lenenc (lenenc_bytes n) n
+pub takes_lenenc : (n : ℕ) → n < 2 ^ 64 → Takes lenenc (lenenc_bytes n) n
 takes_lenenc n small = by (ltb n 251) (ltb n 65536) (ltb n 16777216) refl refl refl where
   by : (one two three : Bool) → ltb n 251 ≡ one → ltb n 65536 ≡ two → ltb n 16777216 ≡ three
       → Takes lenenc (cond one (le_bytes 1 n) (cond two (252 ∷ le_bytes 2 n) (cond three (253 ∷ le_bytes 3 n) (254 ∷ le_bytes 8 n)))) n

@@ -1,14 +1,18 @@
 -- Events, field by field as MySQL's manual of internals gives them. Numbers have their lowest byte first.
-use Rattle.std.specs.Prelude.{ℕ, ◌+◌, ◌==◌, List, [], ◌∷◌, ◌++◌, length, map, replicate, if◌then◌else◌}
+use Rattle.std.specs.Prelude.{ℕ, ◌+◌, ◌==◌, true, List, [], ◌∷◌, ◌++◌, length, map, replicate, if◌then◌else◌}
 use Rattle.std.specs.List.{concat, flat_map, list_any, range_with_len}
+use Rattle.dm_value.specs.declared.value.Value.{Value}
 use Rattle.dm_schema.specs.declared.column.Column.{Column}
+use Rattle.dm_schema.specs.declared.row_change.RowChange.{RowChange}
+use Rattle.dm_schema.specs.declared.row_change.RowChange.TheVariants as change
 use Rattle.dm_schema.specs.Layout.{Layout}
 use Rattle.dm_binlog.specs.declared.bodies.ColumnMap.{ColumnMap}
 use Rattle.dm_binlog.specs.Framing.{header_length}
-use Rattle.dm_binlog.specs.declared.event.TheConstants.{FORMAT_DESCRIPTION, QUERY, TABLE_MAP}
+use Rattle.dm_binlog.specs.declared.event.TheConstants.{DELETE_ROWS, FORMAT_DESCRIPTION, QUERY, TABLE_MAP, UPDATE_ROWS, WRITE_ROWS}
 use Rattle.dm_encode.specs.Numbers.{le_bytes, lenenc_bytes}
 use Rattle.dm_encode.specs.Bitmaps.{bitmap}
 use Rattle.dm_encode.specs.Kinds.{column_map, metadata_bytes}
+use Rattle.dm_encode.specs.Rows.{row_image}
 
 -- what isn't read is written so, in so many bytes
 abbrev pub zeros : ℕ → List ℕ
@@ -84,3 +88,40 @@ map_event id db table layout = event TABLE_MAP (map_body id db table layout)
 -- the column maps of the schema's columns
 abbrev pub maps_of : List Column → List ColumnMap
 maps_of columns = map (λ c. column_map c.kind) columns
+
+-- ROWS_EVENT, of version 2
+
+abbrev pub rows_kind : RowChange → ℕ
+rows_kind (change.Insert row) = WRITE_ROWS
+rows_kind (change.Update old new) = UPDATE_ROWS
+rows_kind (change.Delete row) = DELETE_ROWS
+
+-- the rows whose images an event has, the old one before the new
+abbrev pub rows_of : RowChange → List (List Value)
+rows_of (change.Insert row) = row ∷ []
+rows_of (change.Update old new) = old ∷ new ∷ []
+rows_of (change.Delete row) = row ∷ []
+
+-- each column is present
+abbrev pub present : List Column → List ℕ
+present columns = bitmap (map (λ c. true) columns)
+
+-- an update has a second bitmap, of the new image
+abbrev pub second_present : RowChange → List Column → List ℕ
+second_present (change.Insert row) columns = []
+second_present (change.Update old new) columns = present columns
+second_present (change.Delete row) columns = []
+
+-- table id, flags, the length of the extra data, which is its own two bytes, column count, bitmaps of the columns that
+-- are present
+abbrev pub rows_front : ℕ → List Column → RowChange → List ℕ
+rows_front id columns change = concat (le_bytes 6 id ∷ flags ∷ le_bytes 2 2 ∷ lenenc_bytes (length columns) ∷ present columns ∷ second_present change columns ∷ [])
+
+abbrev pub images : List Column → RowChange → List ℕ
+images columns change = flat_map (row_image columns) (rows_of change)
+
+abbrev pub rows_body : ℕ → Layout → RowChange → List ℕ
+rows_body id layout change = rows_front id layout.columns change ++ images layout.columns change
+
+abbrev pub rows_event : ℕ → Layout → RowChange → List ℕ
+rows_event id layout change = event (rows_kind change) (rows_body id layout change)

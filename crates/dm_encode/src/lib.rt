@@ -8,8 +8,10 @@ mod integers;
 mod kinds;
 mod maps;
 mod numbers;
+mod rows;
 mod times;
 mod values;
 
 pub use events::{write_format, write_query};
 pub use maps::write_map;
+pub use rows::write_rows;
