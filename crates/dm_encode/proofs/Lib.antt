@@ -9,3 +9,4 @@ pub mod Lengths
 pub mod GroupsBack
 pub mod Spelling
 pub mod RowsBack
+pub mod Sizes

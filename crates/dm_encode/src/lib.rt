@@ -15,3 +15,6 @@ mod values;
 pub use events::{write_format, write_query};
 pub use maps::write_map;
 pub use rows::write_rows;
+
+#[cfg(test)]
+mod tests;

@@ -73,7 +73,7 @@ fn push_columns(alloc: Global, bytes: &mut Vec<u8>, schema: &Schema) -> Result<(
     push_bitmap(bytes, &nullable)
 }
 
-fn map_body(
+pub fn map_body(
     alloc: Global,
     id: u64,
     db: &[u8],

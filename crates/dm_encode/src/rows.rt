@@ -147,7 +147,7 @@ fn rows_front(
     Ok(bytes)
 }
 
-fn rows_body(
+pub fn rows_body(
     alloc: Global,
     id: u64,
     schema: &Schema,
