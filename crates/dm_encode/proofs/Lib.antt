@@ -10,3 +10,4 @@ pub mod GroupsBack
 pub mod Spelling
 pub mod RowsBack
 pub mod Sizes
+pub mod Vectors

@@ -3,6 +3,7 @@ use Rattle.std.specs.Prelude.{ℕ, ◌+◌, ◌*◌, Bool, true, false, List, []
 use Rattle.dm_binlog.specs.Bodies.{bitmap_length}
 use Rattle.dm_encode.specs.Numbers.{le_bytes}
 
+-- a bit as a number
 abbrev pub bit : Bool → ℕ
 bit true = 1
 bit false = 0
@@ -12,5 +13,6 @@ abbrev pub bits_value : List Bool → ℕ
 bits_value [] = 0
 bits_value (b ∷ bs) = bit b + 2 * bits_value bs
 
+-- that number in as many bytes as there must be for the bits
 unfoldable pub bitmap : List Bool → List ℕ
 bitmap bits = le_bytes (bitmap_length (length bits)) (bits_value bits)

@@ -14,7 +14,7 @@ use Rattle.dm_encode.specs.Bitmaps.{bitmap}
 use Rattle.dm_encode.specs.Kinds.{column_map, metadata_bytes}
 use Rattle.dm_encode.specs.Rows.{row_image}
 
--- what isn't read is written so, in so many bytes
+-- so many 0 bytes, as which numbers of 0 and whatever isn't read are written
 abbrev pub zeros : ℕ → List ℕ
 zeros width = replicate width 0
 
@@ -28,7 +28,8 @@ event kind body = header kind (header_length + length body) ++ body
 
 -- FORMAT_DESCRIPTION_EVENT
 
--- how many bytes stand before the payload of a type's body: 0 for what isn't written or read
+-- how many bytes of fixed fields the body of a type begins with: those of the types that are written or read, and 0 for
+-- all others
 abbrev pub fixed_length : ℕ → ℕ
 fixed_length kind =
     if kind == 2 then 13
@@ -36,7 +37,7 @@ fixed_length kind =
     else if list_any (λ k. k == kind) (30 ∷ 31 ∷ 32 ∷ []) then 10
     else 0
 
--- those of the types from 1 to 38
+-- one of each type from 1 to 38
 abbrev pub post_header_lengths : List ℕ
 post_header_lengths = map fixed_length (range_with_len 1 38)
 
@@ -64,9 +65,11 @@ query_event db statement = event QUERY (query_body db statement)
 abbrev pub counted : List ℕ → List ℕ
 counted name = concat (le_bytes 1 (length name) ∷ name ∷ zeros 1 ∷ [])
 
+-- the type code of each column
 abbrev pub codes_of : List Column → List ℕ
 codes_of columns = map (λ c. (column_map c.kind).code) columns
 
+-- the metadata of each column, one behind another
 abbrev pub metadata_of : List Column → List ℕ
 metadata_of columns = flat_map (λ c. metadata_bytes (column_map c.kind)) columns
 
@@ -91,6 +94,7 @@ maps_of columns = map (λ c. column_map c.kind) columns
 
 -- ROWS_EVENT, of version 2
 
+-- WRITE_ROWS_EVENT, UPDATE_ROWS_EVENT or DELETE_ROWS_EVENT
 abbrev pub rows_kind : RowChange → ℕ
 rows_kind (change.Insert row) = WRITE_ROWS
 rows_kind (change.Update old new) = UPDATE_ROWS
@@ -117,9 +121,11 @@ second_present (change.Delete row) columns = []
 abbrev pub rows_front : ℕ → List Column → RowChange → List ℕ
 rows_front id columns change = concat (le_bytes 6 id ∷ flags ∷ le_bytes 2 2 ∷ lenenc_bytes (length columns) ∷ present columns ∷ second_present change columns ∷ [])
 
+-- the images of these rows
 abbrev pub images : List Column → RowChange → List ℕ
 images columns change = flat_map (row_image columns) (rows_of change)
 
+-- the images stand behind all else
 abbrev pub rows_body : ℕ → Layout → RowChange → List ℕ
 rows_body id layout change = rows_front id layout.columns change ++ images layout.columns change
 

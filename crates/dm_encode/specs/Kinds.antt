@@ -8,6 +8,7 @@ use Rattle.dm_binlog.specs.Bodies.{meta_width}
 use Rattle.dm_decode.specs.Types.{integer_code}
 use Rattle.dm_encode.specs.Numbers.{le_bytes}
 
+-- a code with its metadata
 abbrev pub coded : ℕ → ℕ → ColumnMap
 coded code meta = record { code = code; meta = meta }
 
@@ -32,10 +33,11 @@ column_map kind.Year = coded 13 0
 column_map (kind.Datetime digits) = coded 18 digits
 column_map (kind.Timestamp digits) = coded 17 digits
 
+-- metadata in as many bytes as their code has, the lower half first
 abbrev pub metadata_bytes : ColumnMap → List ℕ
 metadata_bytes map = le_bytes (meta_width map.code) map.meta
 
--- the greatest length of the kind, in bytes, is one that metadata have
+-- VARCHAR has at most 16,383 characters: the greatest length in bytes has 16 bits.
 abbrev pub has_map : Kind → Bool
 has_map (kind.Varchar most) = nat_le most 16383
 has_map k = true

@@ -6,11 +6,12 @@ use Rattle.dm_schema.specs.Kinds.{is_null}
 use Rattle.dm_encode.specs.Bitmaps.{bitmap}
 use Rattle.dm_encode.specs.Values.{spelled_value}
 
--- NULL has no bytes, as `spelled_value` says
+-- the bytes of each value; NULL has none
 abbrev pub spelled_values : List Column → List Value → List ℕ
 spelled_values [] row = []
 spelled_values (c ∷ cs) [] = []
 spelled_values (c ∷ cs) (v ∷ vs) = spelled_value c.kind v ++ spelled_values cs vs
 
+-- which values are NULL, and the values
 abbrev pub row_image : List Column → List Value → List ℕ
 row_image columns row = bitmap (map is_null row) ++ spelled_values columns row

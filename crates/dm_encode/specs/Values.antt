@@ -15,8 +15,8 @@ use Rattle.dm_encode.specs.Decimals.{spelled_decimal}
 abbrev pub twos_complement : ℕ → ℤ → ℕ
 twos_complement size n = if int_lt n (pos 0) then 2 ^ (8 * size) - unsigned_abs n else unsigned_abs n
 
--- The bytes of a length prefix: one where the greatest length in bytes is below 256, else two. A character has up to
--- four bytes.
+-- The bytes of a length prefix: those that TEXT and BLOB kinds name; else one where the greatest length in bytes is
+-- below 256, and two above. A character has up to four bytes.
 abbrev pub prefix_of : Kind → ℕ
 prefix_of (kind.Char most) = prefix_width (4 * most)
 prefix_of (kind.Varchar most) = prefix_width (4 * most)
