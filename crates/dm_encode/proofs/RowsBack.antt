@@ -149,7 +149,7 @@ takes_extra : Takes extra_data (le_bytes 2 2) []
 unfolding le_bytes
 takes_extra = takes_both (le 2) (le_bytes 2 2) 2 _ [] [] (takes_le 2 2 (lit< tt)) (takes_piece 0 [] refl)
 
-present_long : (columns : List Column) → length (present columns) ≡ bitmap_length (length columns)
+pub present_long : (columns : List Column) → length (present columns) ≡ bitmap_length (length columns)
 present_long columns = length-bitmap (map (λ c. true) columns) ∙ ap bitmap_length (length-map columns (λ c. true))
 
 takes_second : (change : RowChange) (columns : List Column) → Takes (second_bitmap (rows_kind change) (length columns) (present columns)) (second_present change columns) (present columns)
