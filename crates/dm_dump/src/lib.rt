@@ -12,6 +12,8 @@ mod literals;
 mod read;
 mod roles;
 mod rows;
+#[cfg(test)]
+mod tests;
 
 pub use dump::Dump;
 pub use letters::Letter;

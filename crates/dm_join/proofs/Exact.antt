@@ -44,7 +44,7 @@ kind_exact (kind.Datetime x) (kind.Datetime y) h = ap kind.Datetime (eqb-true x 
 kind_exact (kind.Timestamp x) (kind.Timestamp y) h = ap kind.Timestamp (eqb-true x y h)
 kind_exact a b h = absurd (false≢true h)
 
-value_same : (a b : Value) → same_value a b ≡ true → a ≡ b
+pub value_same : (a b : Value) → same_value a b ≡ true → a ≡ b
 value_same a b h = let law = value_laws.matches_eq-law a b in value_exact a b (tied (value_cmp a b) (sym law ∙ h))
 
 pub default_exact : (a b : DefaultRule) → same_default a b ≡ true → a ≡ b

@@ -29,10 +29,10 @@ same_kind_itself kind.Year = refl
 same_kind_itself (kind.Datetime x) = eq-eqb x x refl
 same_kind_itself (kind.Timestamp x) = eq-eqb x x refl
 
-abbrev one_family : Family → Family → Bool
+abbrev pub one_family : Family → Family → Bool
 one_family = (family_eq.ghosts).eq
 
-family_itself : (f : Family) → one_family f f ≡ true
+pub family_itself : (f : Family) → one_family f f ≡ true
 family_itself family.Signed = refl
 family_itself family.Unsigned = refl
 family_itself family.Decimal = refl
@@ -47,7 +47,7 @@ family_itself family.Year = refl
 family_itself family.Datetime = refl
 family_itself family.Timestamp = refl
 
-family_exact : (f g : Family) → one_family f g ≡ true → f ≡ g
+pub family_exact : (f g : Family) → one_family f g ≡ true → f ≡ g
 family_exact family.Signed family.Signed h = refl
 family_exact family.Unsigned family.Unsigned h = refl
 family_exact family.Decimal family.Decimal h = refl
@@ -72,13 +72,13 @@ size_third (Some m) None u low high = absurd (false≢true low)
 size_third (Some m) (Some n) None low high = absurd (false≢true high)
 size_third (Some m) (Some n) (Some o) low high = le-leb m o (omega (arith, leb-true m n low, leb-true n o high))
 
-below_cases : (a b : Kind) → kind_at_most a b ≡ true → (a ≡ b) ⊎ ((same_family a b ≡ true) × (size_at_most (size_of a) (size_of b) ≡ true))
+pub below_cases : (a b : Kind) → kind_at_most a b ≡ true → (a ≡ b) ⊎ ((same_family a b ≡ true) × (size_at_most (size_of a) (size_of b) ≡ true))
 below_cases a b e = by (or_cases (same_kind a b) (same_family a b && size_at_most (size_of a) (size_of b)) e) where
   by : (same_kind a b ≡ true) ⊎ ((same_family a b && size_at_most (size_of a) (size_of b)) ≡ true) → (a ≡ b) ⊎ ((same_family a b ≡ true) × (size_at_most (size_of a) (size_of b) ≡ true))
   by (inl same) = inl (kind_exact a b same)
   by (inr h) = inr (and_parts (same_family a b) (size_at_most (size_of a) (size_of b)) h)
 
-below_by_size : (a b : Kind) → same_family a b ≡ true → size_at_most (size_of a) (size_of b) ≡ true → kind_at_most a b ≡ true
+pub below_by_size : (a b : Kind) → same_family a b ≡ true → size_at_most (size_of a) (size_of b) ≡ true → kind_at_most a b ≡ true
 below_by_size a b f s = or_right (same_kind a b) (same_family a b && size_at_most (size_of a) (size_of b)) (and_from (same_family a b) (size_at_most (size_of a) (size_of b)) f s)
 
 pub kind_reflexive : (k : Kind) → kind_at_most k k ≡ true

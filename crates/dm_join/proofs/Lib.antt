@@ -14,3 +14,5 @@ pub mod JoinLaws
 pub mod Table
 pub mod AlterationLaws
 pub mod EffectLaws
+pub mod Widening
+pub mod Laws

@@ -101,3 +101,55 @@ fn alters_a_column(rt: HostRuntime) -> Result<(), Fail> {
     assert_eq!(rt; *spot, Spot::Keep);
     Ok(())
 }
+
+/// A table of a key `i` alone.
+fn key_alone(alloc: Global) -> Result<Schema, Fail> {
+    let key = column(alloc, b'i', Kind::Signed(4), false)?;
+    let primary = Names::new(vec![in alloc; name(alloc, b'i')?]?);
+    let columns = vec![in alloc; key]?;
+    let Ok(table) = Schema::new(columns, primary, Vec::new(alloc)) else {
+        return Err(Fail::from("no schema"));
+    };
+    Ok(table)
+}
+
+/// One of three schemas: `c` INT NULL, `c` BIGINT NOT NULL, and without `c`.
+fn one_of_three(alloc: Global, letter: u8) -> Result<Schema, Fail> {
+    match letter {
+        b'a' => table(alloc, Kind::Signed(4), true),
+        b'b' => table(alloc, Kind::Signed(8), false),
+        _ => key_alone(alloc),
+    }
+}
+
+/// The join of the three in an order.
+fn joined_in_order(alloc: Global, order: &str) -> Result<Schema, Fail> {
+    let [first, second, third] = order.as_bytes() else {
+        return Err(Fail::from("no order"));
+    };
+    let first = one_of_three(alloc, *first)?;
+    let second = one_of_three(alloc, *second)?;
+    let third = one_of_three(alloc, *third)?;
+    let schemas = vec![in alloc; first, second, third]?;
+    let Ok(joined) = join(alloc, &schemas) else {
+        return Err(Fail::from("no join"));
+    };
+    Ok(joined)
+}
+
+/// Whether their join in an order has `c` BIGINT NULL.
+fn is_wide(alloc: Global, order: &str) -> Result<bool, Fail> {
+    let joined = joined_in_order(alloc, order)?;
+    let want = table(alloc, Kind::Signed(8), true)?;
+    Ok(joined.equals(alloc, &want)?)
+}
+
+#[test]
+fn joins_in_any_order(rt: HostRuntime) -> Result<(), Fail> {
+    let alloc = rt.alloc();
+    for order in "abc\nacb\nbac\nbca\ncab\ncba".lines() {
+        let wide = is_wide(alloc, order)?;
+        assert!(rt; wide, "in the order {order}");
+    }
+    Ok(())
+}

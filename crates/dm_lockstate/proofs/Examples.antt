@@ -5,9 +5,11 @@ use Rattle.dm_value.specs.declared.value.Value.TheVariants as value
 use Rattle.dm_schema.specs.declared.column.Kind.{Kind}
 use Rattle.dm_schema.specs.declared.column.Kind.TheVariants as kind
 use Rattle.dm_schema.specs.declared.column.Column.{Column}
+use Rattle.dm_schema.specs.declared.column.UniqueKey.{UniqueKey}
 use Rattle.dm_schema.specs.declared.column.DefaultRule.{DefaultRule}
 use Rattle.dm_schema.specs.declared.column.DefaultRule.TheVariants as default
 use Rattle.dm_schema.specs.Layout.{Layout}
+use Rattle.dm_join.specs.declared.no_join.JoinCause.TheVariants as cause
 use Rattle.dm_join.specs.declared.no_join.NoJoin.{NoJoin}
 use Rattle.dm_join.specs.Join.{join}
 use Rattle.dm_lockstate.specs.declared.stop.Stop.{Stop}
@@ -100,3 +102,42 @@ dropped_and_narrowed = refl
 dropped_by_all_and_added : offers (a [] ∷ b [] ∷ a (v 4 ∷ []) ∷ []) ≡ Ok plain ∷ Ok (table []) ∷ Ok plain ∷ []
 unfolding offer first join
 dropped_by_all_and_added = refl
+
+-- a DROP v, a ADD v INT, b DROP v, a ADD v INT
+dropped_and_added_behind_the_other : offers (a [] ∷ a (v 4 ∷ []) ∷ b [] ∷ a (v 4 ∷ []) ∷ []) ≡ Ok plain ∷ Err (stop.NotFullyDropped (codes "v")) ∷ Ok (table []) ∷ Ok plain ∷ []
+unfolding offer first join
+dropped_and_added_behind_the_other = refl
+
+-- b MODIFY v TINYINT, a DROP v
+narrowed_and_dropped : offers (b (v 1 ∷ []) ∷ a [] ∷ []) ≡ Ok plain ∷ Err (stop.NotFullyDropped (codes "v")) ∷ []
+unfolding offer first join
+narrowed_and_dropped = refl
+
+-- `d` INT NOT NULL with a default
+abbrev filled : DefaultRule → Column
+filled rule = column (codes "d") (kind.Signed 4) false rule
+
+abbrev with_five : Layout
+with_five = record { columns = filled (number 5) ∷ id ∷ v 4 ∷ []; primary = codes "id" ∷ []; uniques = [] }
+
+-- a ADD d INT NOT NULL DEFAULT 5, b ADD d INT NOT NULL
+two_defaults : offers (a (v 4 ∷ filled (number 5) ∷ []) ∷ b (v 4 ∷ filled default.Nothing ∷ []) ∷ []) ≡ Ok with_five ∷ Err (stop.NoJoin (codes "d") cause.DefaultDiffers) ∷ []
+unfolding offer first join
+two_defaults = refl
+
+-- b ADD d INT NOT NULL, a ADD d INT NOT NULL DEFAULT 5, b the same again
+no_fill_and_two_defaults : offers (b (v 4 ∷ filled default.Nothing ∷ []) ∷ a (v 4 ∷ filled (number 5) ∷ []) ∷ b (v 4 ∷ filled default.Nothing ∷ []) ∷ [])
+    ≡ Err (stop.NoJoin (codes "d") cause.MissingNoFill) ∷ Ok with_five ∷ Err (stop.NoJoin (codes "d") cause.DefaultDiffers) ∷ []
+unfolding offer first join
+no_fill_and_two_defaults = refl
+
+abbrev w : UniqueKey
+w = record { name = codes "w"; columns = codes "v" ∷ [] }
+
+abbrev keyed : Layout
+keyed = record { columns = id ∷ v 4 ∷ []; primary = codes "id" ∷ []; uniques = w ∷ [] }
+
+-- a ADD UNIQUE KEY w (v), b the same
+unique_once_all_have_it : offers (record { member = 0; schema = keyed } ∷ record { member = 1; schema = keyed } ∷ []) ≡ Ok plain ∷ Ok keyed ∷ []
+unfolding offer first join
+unique_once_all_have_it = refl

@@ -1,0 +1,13 @@
+pub mod Digits
+pub mod Taking
+pub mod Bodies
+pub mod Bits
+pub mod MapsBack
+pub mod Rests
+pub mod Shapes
+pub mod Lengths
+pub mod GroupsBack
+pub mod Spelling
+pub mod RowsBack
+pub mod Sizes
+pub mod Vectors
