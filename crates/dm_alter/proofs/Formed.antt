@@ -189,7 +189,7 @@ first_folded key all = by key.columns all where
   by [] h = refl
   by (n ∷ ns) h = (and_parts (is_folded n) (list_all is_folded ns) h).0
 
-key_formed : (keys : List UniqueKey) (key : UniqueKey) (named : Bool) → (is_key key && list_all is_folded key.columns) ≡ true → is_key (named_key keys key named) ≡ true
+pub key_formed : (keys : List UniqueKey) (key : UniqueKey) (named : Bool) → (is_key key && list_all is_folded key.columns) ≡ true → is_key (named_key keys key named) ≡ true
 key_formed keys key true p = (and_parts (is_key key) (list_all is_folded key.columns) p).0
 key_formed keys key false p =
     let parts = and_parts (is_key key) (list_all is_folded key.columns) p in

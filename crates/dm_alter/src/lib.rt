@@ -12,3 +12,4 @@ mod uniques;
 
 pub use defaults::DefaultReading;
 pub use effects::{effect, effect_joined};
+pub use uniques::named_key;

@@ -60,7 +60,7 @@ fn first_column(alloc: Global, key: &UniqueKey) -> Result<Name, AllocError>
 }
 
 /// The key with its own name, or with the one that it gets where it has none.
-fn named_key(
+pub fn named_key(
     alloc: Global,
     uniques: &[UniqueKey],
     key: &UniqueKey,

@@ -9,6 +9,7 @@ use Rattle.dm_lex.specs.declared.token.Token.{Token}
 use Rattle.dm_lex.specs.declared.token.LexFault.{LexFault}
 use Rattle.dm_lex.specs.declared.token.LexFault.TheVariants as lex
 use Rattle.dm_lex.specs.Tokens.{tokens_of}
+use Rattle.dm_schema.specs.declared.fault.SchemaFault.{SchemaFault}
 use Rattle.dm_ddl.specs.declared.fault.DdlFault.{DdlFault}
 use Rattle.dm_ddl.specs.declared.fault.DdlFault.TheVariants as fault
 use Rattle.dm_ddl.specs.declared.piece.Piece.{Piece}
@@ -31,6 +32,11 @@ is_memory (fault.Lex at) = false
 is_memory (fault.Syntax at) = false
 is_memory (fault.Unsupported at) = false
 is_memory (fault.Made e) = false
+
+-- the schema, if it can be made
+abbrev pub made : {A : Type 0} → Result A SchemaFault → Result A DdlFault
+made (Ok schema) = Ok schema
+made (Err e) = Err (fault.Made e)
 
 -- the grammar of a statement, or of its head alone
 abbrev pub grammar_of : Extent → List ℕ → Grammar
