@@ -1,6 +1,8 @@
 -- A text says one thing: what parsing found.
-use Rattle.std.proofs.Common.{◌≡◌, ℕ, Bool, List, Option, Some, None, Result, Ok, Err, refl, sym, ap, ◌∙◌, subst}
+use Rattle.std.proofs.Common.{◌≡◌, ℕ, Bool, true, false, List, Option, Some, None, Result, Ok, Err, refl, sym, ap, ◌∙◌, subst}
+use Rattle.std.specs.Prelude.{⊤, MatchBool}
 use Rattle.std.specs.Option.{option_map}
+use Rattle.dm_list.specs.Answer.{Answers}
 use Rattle.dm_grammar.specs.Sentence.{IsSentence, IsReading}
 use Rattle.dm_grammar.specs.declared.reader.Fault.{Fault}
 use Rattle.dm_lex.specs.declared.token.Token.{Token}
@@ -11,7 +13,7 @@ use Rattle.dm_ddl.specs.declared.piece.Piece.{Piece}
 use Rattle.dm_ddl.specs.declared.parsing.Extent.{Extent}
 use Rattle.dm_ddl.specs.Classes.{in_class}
 use Rattle.dm_ddl.specs.Pieces.{pieces_of}
-use Rattle.dm_ddl.specs.Parsing.{grammar_of, kinds_of, placed, IsStatement, HasPieces, SaysLexed, Says}
+use Rattle.dm_ddl.specs.Parsing.{grammar_of, kinds_of, placed, IsStatement, HasPieces, SaysLexed, Says, OrMemory, is_memory, judged_as}
 
 -- whoever reads these tokens as a statement finds these pieces, and no fault
 abbrev pub IsOnly : Extent → List ℕ → List Piece → Option DdlFault → Type 0
@@ -50,3 +52,19 @@ only_answer {A} extent text judged pieces fault strict only value says = lexed (
   lexed : (r : Result (List Token) LexFault) → tokens_of text ≡ r → SaysLexed extent judged text r (Ok value) → (fault ≡ None) × (Ok value ≡ judged pieces None)
   lexed (Err f) e says = absurd cc
   lexed (Ok tokens) e says = found tokens says.2.0 says.2.1 says.0 says.1 e says.2.2 says.2.3 says.2.4 says.3
+
+-- what pieces say is what the text says
+pub says_as : {A : Type 0} (extent : Extent) (text : List ℕ) (judged : List Piece → Option DdlFault → Result A DdlFault) (pieces : List Piece) (fault : Option DdlFault) (r : Result A DdlFault)
+    → Says extent judged_as text (Ok (pieces, fault)) → Answers is_memory r (judged pieces fault) → OrMemory (Says extent judged text) r
+says_as {A} extent text judged pieces fault r parsed answers = answered r answers where
+  lexed : (x : Result A DdlFault) (t : Result (List Token) LexFault) → SaysLexed extent judged_as text t (Ok (pieces, fault)) → x ≡ judged pieces fault → SaysLexed extent judged text t x
+  lexed x (Err e) says h = absurd cc
+  lexed x (Ok tokens) says h =
+      let found : (pieces, fault) ≡ (says.0, says.1) = let both : ◌≡◌ {A = Result (List Piece × Option DdlFault) DdlFault} (Ok (pieces, fault)) (Ok (says.0, says.1)) = says.3 in cc in
+      (says.0, says.1, says.2, h ∙ ap (λ (pf : List Piece × Option DdlFault). judged pf.0 pf.1) found)
+  failed : (e : DdlFault) (m : Bool) → is_memory e ≡ m → MatchBool m ⊤ (Err e ≡ judged pieces fault) → OrMemory (Says extent judged text) (Err e)
+  failed e true t h = rw t tt
+  failed e false t h = rw t (lexed (Err e) (tokens_of text) parsed h)
+  answered : (x : Result A DdlFault) → Answers is_memory x (judged pieces fault) → OrMemory (Says extent judged text) x
+  answered (Ok v) h = lexed (Ok v) (tokens_of text) parsed h
+  answered (Err e) h = failed e (is_memory e) refl h

@@ -1,7 +1,9 @@
 pub mod Answering
+pub mod Definitions
 pub mod Formed
 pub mod Numbers
 pub mod PartsLemmas
 pub mod Ranges
 pub mod Ready
+pub mod StatementLemmas
 pub mod Terminals

@@ -1,6 +1,7 @@
 -- What a statement says: the schema that it creates, the changes that it makes, or neither.
-use Rattle.std.specs.Prelude.{ℕ, Bool, ◌||◌, List, [], Option, Some, None, Result, Ok, Err, if◌then◌else◌}
-use Rattle.std.specs.List.{list_any}
+use Rattle.std.specs.Prelude.{ℕ, Bool, true, ◌||◌, List, [], Option, Some, None, Result, Ok, Err, if◌then◌else◌}
+use Rattle.std.specs.List.{list_any, list_all}
+use Rattle.dm_schema.specs.Effect.{is_change}
 use Rattle.dm_schema.specs.Layout.{Layout}
 use Rattle.dm_schema.specs.declared.fault.SchemaFault.{SchemaFault}
 use Rattle.dm_schema.specs.declared.fault.SchemaFault.TheVariants as schema_fault
@@ -49,3 +50,9 @@ unless_fault None rest = rest
 -- what the pieces say, up to the first fault
 abbrev pub statement_unless : List ℕ → List Piece → Option DdlFault → Result Statement DdlFault
 statement_unless text pieces fault = unless_excess (first_excess text (items_of pieces)) (unless_fault fault (statement_of text pieces))
+
+-- the changes of a statement are such of which schemas can be made
+abbrev pub are_changes : Statement → Bool
+are_changes (statement.Create table schema only_new) = true
+are_changes (statement.Alter table changes) = list_all is_change changes
+are_changes statement.Other = true

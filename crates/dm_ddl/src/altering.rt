@@ -98,11 +98,14 @@ fn column_change(alloc: Global, text: &[u8], item: &[Piece]) -> Result<Change, A
 fn added_keys(alloc: Global, keys: Vec<WrittenKey>) -> Result<Vec<Change>, AllocError>
     ensures { IfOk result (λ changes. changes.items ≡ map added_key keys.items) }
 {
-    let mut changes = Vec::with_capacity(alloc, keys.len())?;
-    for WrittenKey { key, named } in keys {
-        changes.push(Change::AddUnique { key, named })?;
-    }
-    Ok(changes)
+    keys.into_iter().map(added_key).collect(alloc)
+}
+
+fn added_key(written: WrittenKey) -> Change
+    ensures { result ≡ added_key written }
+{
+    let WrittenKey { key, named } = written;
+    Change::AddUnique { key, named }
 }
 
 /// A column, and behind it the unique key that its UNIQUE says.

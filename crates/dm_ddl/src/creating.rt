@@ -28,8 +28,7 @@ fn columns_in(
 ) -> Result<Vec<Column>, AllocError>
     requires few { length text.now < 2 ^ 32 }
     requires bounds { first_excess text.now (items_of pieces.now) ≡ None }
-    ensures value { IfOk result (λ columns. columns.items ≡ columns_in text.now primary.now (items_of pieces.now)) }
-    ensures formed { IfOk result (λ columns. IsTrue (list_all is_column columns.items)) }
+    ensures { IfOk result (λ columns. columns.items ≡ columns_in text.now primary.now (items_of pieces.now)) }
 {
     let mut columns = Vec::new(alloc);
     let mut rest = pieces;
@@ -64,15 +63,12 @@ pub fn has_unfit(
 }
 
 /// Puts elements behind others.
-pub fn push_all<T>(all: &mut Vec<T>, more: Vec<T>) -> Result<(), AllocError>
+pub fn push_all<T>(all: &mut Vec<T>, mut more: Vec<T>) -> Result<(), AllocError>
 where
     T: Drop,
     ensures { OnOk result (all.new.items ≡ all.old.items ++ more.items) }
 {
-    for element in more {
-        all.push(element)?;
-    }
-    Ok(())
+    all.append(&mut more)
 }
 
 /// The primary keys that are written.
@@ -116,8 +112,7 @@ fn push_named(
 
 /// The unique keys of the definitions.
 fn uniques_in(alloc: Global, text: &[u8], pieces: &[Piece]) -> Result<Vec<UniqueKey>, AllocError>
-    ensures value { IfOk result (λ keys. keys.items ≡ uniques_in text.now (items_of pieces.now)) }
-    ensures formed { IfOk result (λ keys. IsTrue (list_all is_key keys.items)) }
+    ensures { IfOk result (λ keys. keys.items ≡ uniques_in text.now (items_of pieces.now)) }
 {
     let mut keys = Vec::new(alloc);
     let mut rest = pieces;

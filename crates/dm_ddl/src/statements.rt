@@ -1,10 +1,10 @@
-ghost use Rattle.std.specs.Prelude.{◌≡◌, ◌<◌, ◌^◌, Ok, None, length};
+ghost use Rattle.std.specs.Prelude.{◌≡◌, ◌<◌, ◌^◌, Ok, None, length, IfOk, IsTrue};
 ghost use Rattle.dm_list.specs.Answer.{Answers};
 ghost use Rattle.dm_ddl.specs.declared.statements.Statement.{Statement};
 ghost use Rattle.dm_ddl.specs.declared.parsing.Extent.TheVariants as extent;
 ghost use Rattle.dm_ddl.specs.Bounds.{items_of, first_excess};
 ghost use Rattle.dm_ddl.specs.Parsing.{is_memory, OrMemory, Says};
-ghost use Rattle.dm_ddl.specs.Statements.{alters, alter_of, statement_of, statement_unless};
+ghost use Rattle.dm_ddl.specs.Statements.{are_changes, alters, alter_of, statement_of, statement_unless};
 
 use crate::altering::changes_in;
 use crate::bounds::first_excess;
@@ -43,6 +43,8 @@ pub fn read_statement(alloc: Global, text: &[u8]) -> Result<Statement, DdlFault>
     ensures exact { OrMemory (Says extent.Whole (statement_unless text.now) text.now) result }
     // Each statement is read, and says nothing else.
     ensures each { (statement : Statement) → Says extent.Whole (statement_unless text.now) text.now (Ok statement) → Answers is_memory result (Ok statement) }
+    // Schemas can be made by its changes.
+    ensures formed { IfOk result (λ statement. IsTrue (are_changes statement)) }
 {
     let parsed = parse(alloc, text, Extent::Whole)?;
     statement_unless(alloc, text, &parsed.pieces, parsed.fault)
@@ -75,12 +77,14 @@ fn statement_of(alloc: Global, text: &[u8], pieces: &[Piece]) -> Result<Statemen
     ensures { Answers is_memory result (statement_of text.now pieces.now) }
 {
     if has_role(pieces, role::CREATE_TABLE) {
-        let schema = schema_in(alloc, text, pieces)?;
-        Ok(Statement::Create {
-            table: first_table(alloc, text, pieces)?,
-            schema,
-            only_new: has_role(pieces, role::EXISTS),
-        })
+        match schema_in(alloc, text, pieces) {
+            Ok(schema) => Ok(Statement::Create {
+                table: first_table(alloc, text, pieces)?,
+                schema,
+                only_new: has_role(pieces, role::EXISTS),
+            }),
+            Err(fault) => Err(fault),
+        }
     } else if alters(pieces) {
         alter_of(alloc, text, pieces)
     } else {
