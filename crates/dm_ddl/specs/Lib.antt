@@ -3,6 +3,7 @@ pub mod Bounds
 pub mod Classes
 pub mod Columns
 pub mod Creating
+pub mod Defaults
 pub mod Heads
 pub mod Keys
 pub mod Names

@@ -7,6 +7,7 @@ mod class;
 mod classes;
 mod columns;
 mod creating;
+mod defaults;
 mod fault;
 mod heads;
 mod keys;
@@ -24,6 +25,7 @@ mod tests;
 mod types;
 mod words;
 
+pub use defaults::{effect, effect_joined};
 pub use fault::DdlFault;
 pub use heads::{Head, read_head};
 pub use names::{Named, Tables};
