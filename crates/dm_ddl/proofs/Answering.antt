@@ -13,7 +13,7 @@ use Rattle.dm_ddl.specs.declared.piece.Piece.{Piece}
 use Rattle.dm_ddl.specs.declared.parsing.Extent.{Extent}
 use Rattle.dm_ddl.specs.Classes.{in_class}
 use Rattle.dm_ddl.specs.Pieces.{pieces_of}
-use Rattle.dm_ddl.specs.Parsing.{grammar_of, kinds_of, placed, IsStatement, HasPieces, SaysLexed, Says, OrMemory, is_memory, judged_as}
+use Rattle.dm_ddl.specs.Parsing.{grammar_of, kinds_of, placed, IsStatement, SaysLexed, Says, OrMemory, is_memory, judged_as}
 
 -- whoever reads these tokens as a statement finds these pieces, and no fault
 abbrev pub IsOnly : Extent → List ℕ → List Piece → Option DdlFault → Type 0
@@ -49,6 +49,7 @@ only_answer {A} extent text judged pieces fault strict only value says = lexed (
       let one = only tokens roles e reading in
       (one.0, answer ∙ rw (place, made, one.1) refl)
   found tokens roles (Some f) read at e reading made place answer = absurd (strict read (placed text tokens f) value (answer ∙ ap (judged read) place))
+
   lexed : (r : Result (List Token) LexFault) → tokens_of text ≡ r → SaysLexed extent judged text r (Ok value) → (fault ≡ None) × (Ok value ≡ judged pieces None)
   lexed (Err f) e says = absurd cc
   lexed (Ok tokens) e says = found tokens says.2.0 says.2.1 says.0 says.1 e says.2.2 says.2.3 says.2.4 says.3
@@ -62,9 +63,11 @@ says_as {A} extent text judged pieces fault r parsed answers = answered r answer
   lexed x (Ok tokens) says h =
       let found : (pieces, fault) ≡ (says.0, says.1) = let both : ◌≡◌ {A = Result (List Piece × Option DdlFault) DdlFault} (Ok (pieces, fault)) (Ok (says.0, says.1)) = says.3 in cc in
       (says.0, says.1, says.2, h ∙ ap (λ (pf : List Piece × Option DdlFault). judged pf.0 pf.1) found)
+
   failed : (e : DdlFault) (m : Bool) → is_memory e ≡ m → MatchBool m ⊤ (Err e ≡ judged pieces fault) → OrMemory (Says extent judged text) (Err e)
   failed e true t h = rw t tt
   failed e false t h = rw t (lexed (Err e) (tokens_of text) parsed h)
+
   answered : (x : Result A DdlFault) → Answers is_memory x (judged pieces fault) → OrMemory (Says extent judged text) x
   answered (Ok v) h = lexed (Ok v) (tokens_of text) parsed h
   answered (Err e) h = failed e (is_memory e) refl h

@@ -1,6 +1,6 @@
 -- The columns and keys of definitions, one after another, and that a schema can be made of them.
 use Rattle.std.proofs.lemmas.Bool.Decides.{eqb_tells}
-use Rattle.std.proofs.Common.{◌≡◌, ◌≢◌, ◌==◌, ◌||◌, ◌⊎◌, inl, inr, arith, eqb, append-nil, Bool, true, false, not, ◌&&◌, ℕ, List, [], ◌∷◌, ◌++◌, map, length, Option, Some, None, Result, Ok, Err, unwrap_or, refl, sym, ap, ◌∙◌, subst, append_assoc, cond}
+use Rattle.std.proofs.Common.{◌≡◌, ◌≢◌, ◌==◌, ◌||◌, ◌⊎◌, inl, inr, arith, eqb, Bool, true, false, ◌&&◌, ℕ, List, [], ◌∷◌, ◌++◌, map, length, Option, Some, None, Result, unwrap_or, refl, ◌∙◌, subst, append_assoc, cond}
 use Rattle.std.specs.Option.{option_or}
 use Rattle.std.specs.List.{list_all, list_any, flat_map, filter}
 use Rattle.dm_list.specs.Answer.{Answers}
@@ -17,12 +17,12 @@ use Rattle.dm_ddl.specs.declared.keys.WrittenKey.{WrittenKey}
 use Rattle.dm_ddl.specs.declared.piece.Piece.{Piece}
 use Rattle.dm_ddl.specs.declared.role.TheConstants as role
 use Rattle.dm_ddl.specs.Pieces.{has_role}
-use Rattle.dm_ddl.specs.Names.{folded_name, folded_with, all_folded_with, name_of}
+use Rattle.dm_ddl.specs.Names.{folded_name, folded_with, name_of}
 use Rattle.dm_ddl.specs.Bounds.{excess_in, first_excess}
 use Rattle.dm_ddl.specs.Types.{type_word, kind_in}
 use Rattle.dm_ddl.specs.Columns.{last_default, nullable_in, column_name, column_in, default_in, is_unfit}
-use Rattle.dm_ddl.specs.Keys.{key_parts, key_name, is_named, key_over, key_of_column, unique_keys}
-use Rattle.dm_ddl.specs.Creating.{columns_in, primaries_in, all_columns_of, named_behind, uniques_in, created, schema_with, schema_in}
+use Rattle.dm_ddl.specs.Keys.{key_parts, key_name, key_over, key_of_column, unique_keys}
+use Rattle.dm_ddl.specs.Creating.{columns_in, primaries_in, all_columns_of, named_behind, uniques_in, created, schema_in}
 use Rattle.dm_ddl.specs.Parsing.{is_memory, made}
 use Rattle.dm_list.specs.Answer.{first_refusal}
 use Rattle.std.specs.Prelude.{codes}
@@ -56,10 +56,10 @@ columns_formed text primary [] none = refl
 columns_formed text primary (item ∷ items) none =
     let parts = behind text item items none in
     by (has_role role.COLUMN_NAME item) refl (column_formed_in text primary item parts.0) (columns_formed text primary items parts.1) where
-  by : (t : Bool) → has_role role.COLUMN_NAME item ≡ t → is_column (column_in text primary item) ≡ true → list_all is_column (columns_in text primary items) ≡ true
-      → list_all is_column (columns_in text primary (item ∷ items)) ≡ true
-  by true e one rest = rw (e, one) rest
-  by false e one rest = rw e rest
+      by : (t : Bool) → has_role role.COLUMN_NAME item ≡ t → is_column (column_in text primary item) ≡ true → list_all is_column (columns_in text primary items) ≡ true
+          → list_all is_column (columns_in text primary (item ∷ items)) ≡ true
+      by true e one rest = rw (e, one) rest
+      by false e one rest = rw e rest
 
 pub one_column_more : (text : List ℕ) (primary : List (List ℕ)) (before : List Column) (item : List Piece) (items : List (List Piece)) (all : List Column) (column : Column)
     → has_role role.COLUMN_NAME item ≡ true → column ≡ column_in text primary item → before ++ columns_in text primary (item ∷ items) ≡ all

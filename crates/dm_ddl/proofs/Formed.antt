@@ -1,7 +1,7 @@
 -- Names of columns and keys are folded, and a column that is read is one of which a schema can be made.
-use Rattle.std.proofs.Common.{◌≡◌, ◌+◌, ◌≤◌, ◌<◌, ◌==◌, ℕ, Bool, true, false, not, ◌&&◌, ◌⊎◌, inl, inr, List, [], ◌∷◌, map, Option, Some, None, Result, Ok, Err, unwrap_or, IfOk, refl, sym, ap, ◌∙◌, arith, leb, cond}
+use Rattle.std.proofs.Common.{◌≡◌, ◌+◌, ◌≤◌, ◌<◌, ℕ, Bool, true, false, ◌&&◌, ◌⊎◌, inl, inr, List, [], ◌∷◌, map, Option, Some, None, Result, Ok, Err, unwrap_or, IfOk, refl, ◌∙◌, arith, leb, cond}
 use Rattle.std.specs.Option.{option_map_or}
-use Rattle.std.specs.List.{list_any, list_all}
+use Rattle.std.specs.List.{list_any}
 use Rattle.std.specs.declared.alloc.AllocError.{AllocError}
 use Rattle.std.proofs.lemmas.Bool.{leb-true}
 use Rattle.std.proofs.lemmas.Bool.Decides.{leb_tells}
@@ -16,7 +16,7 @@ use Rattle.dm_lex.specs.Literals.{lower}
 use Rattle.dm_ddl.specs.declared.piece.Piece.{Piece}
 use Rattle.dm_ddl.specs.declared.role.TheConstants as role
 use Rattle.dm_ddl.specs.Pieces.{first_with, has_role}
-use Rattle.dm_ddl.specs.Names.{name_of, folded_name, folded_with, all_folded_with}
+use Rattle.dm_ddl.specs.Names.{name_of, folded_name, folded_with}
 use Rattle.dm_ddl.specs.Types.{kind_in}
 use Rattle.dm_ddl.specs.Columns.{literal_in, last_default, rule_in, nullable_in, column_name, default_in}
 

@@ -1,10 +1,9 @@
 -- What a statement's pieces say up to a fault.
-use Rattle.std.proofs.Common.{◌≡◌, Bool, true, false, ◌||◌, cond, List, [], Option, Some, None, Result, Ok, Err, IfOk, refl, ℕ, IsTrue}
+use Rattle.std.proofs.Common.{◌≡◌, Bool, true, false, cond, List, [], Option, Some, None, Result, Ok, Err, IfOk, refl, ℕ, IsTrue}
 use Rattle.std.specs.Prelude.{⊤, MatchBool}
-use Rattle.std.specs.List.{list_all, list_any}
+use Rattle.std.specs.List.{list_any}
 use Rattle.dm_list.specs.Answer.{Answers}
 use Rattle.dm_schema.specs.Layout.{Layout}
-use Rattle.dm_schema.specs.Effect.{is_change}
 use Rattle.dm_schema.specs.declared.fault.SchemaFault.{SchemaFault}
 use Rattle.dm_schema.specs.declared.fault.SchemaFault.TheVariants as schema_fault
 use Rattle.dm_ddl.specs.declared.fault.DdlFault.{DdlFault}
@@ -44,11 +43,13 @@ formed_of text pieces v none e = which (has_role role.CREATE_TABLE pieces) (alte
   created : (r : Result Layout SchemaFault) → Ok v ≡ create_of text pieces r → are_changes v ≡ true
   created (Ok schema) e = let same : v ≡ statement.Create (first_table text pieces) schema (has_role role.EXISTS pieces) = cc in rw same refl
   created (Err f) e = absurd cc
+
   altered : (t : Bool) → Ok v ≡ cond t (Err (fault.Made schema_fault.DefaultUnfit)) (Ok (statement.Alter (first_table text pieces) (changes_in text (items_of pieces)))) → are_changes v ≡ true
   altered true e = absurd cc
   altered false e =
       let same : v ≡ statement.Alter (first_table text pieces) (changes_in text (items_of pieces)) = cc in
       rw same (changes_formed text (items_of pieces) none)
+
   which : (t u : Bool) → Ok v ≡ cond t (create_of text pieces (schema_in text (items_of pieces))) (cond u (alter_of text pieces) (Ok statement.Other)) → are_changes v ≡ true
   which true u e = created (schema_in text (items_of pieces)) e
   which false true e = altered (list_any (is_unfit text []) (items_of pieces)) e

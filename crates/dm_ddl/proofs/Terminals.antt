@@ -9,7 +9,7 @@ use Rattle.dm_lex.specs.declared.token.TokenKind.{TokenKind}
 use Rattle.dm_lex.specs.declared.token.TokenKind.TheVariants as token
 use Rattle.dm_schema.specs.Names.{same_name}
 use Rattle.dm_lex.specs.Literals.{lower}
-use Rattle.dm_ddl.specs.Words.{key_words, terminal_among, terminal_of_word}
+use Rattle.dm_ddl.specs.Words.{key_words, terminal_among}
 use Rattle.dm_ddl.specs.Pieces.{bytes_of, terminal_of_byte, terminal_of_mark, terminal_of_number, terminal_of}
 
 abbrev AreSmall : List (List ℕ × ℕ) → Type 0

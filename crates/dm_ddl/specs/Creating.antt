@@ -1,5 +1,5 @@
 -- The schema that the definitions of a CREATE TABLE say.
-use Rattle.std.specs.Prelude.{ℕ, Bool, true, false, nat_lt, List, [], ◌∷◌, ◌++◌, length, map, Result, Ok, Err, if◌then◌else◌}
+use Rattle.std.specs.Prelude.{ℕ, Bool, nat_lt, List, [], ◌∷◌, ◌++◌, length, map, Result, Ok, Err, if◌then◌else◌}
 use Rattle.std.specs.List.{list_any, filter, flat_map}
 use Rattle.dm_schema.specs.declared.column.Column.{Column}
 use Rattle.dm_schema.specs.declared.column.UniqueKey.{UniqueKey}

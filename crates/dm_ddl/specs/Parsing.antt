@@ -1,5 +1,5 @@
 -- From a text to its pieces: its tokens, and their roles by the grammar, up to the first fault.
-use Rattle.std.specs.Prelude.{◌≡◌, ⊤, ℕ, List, map, length, slice_get, Bool, true, false, Option, Some, None, Result, Ok, Err}
+use Rattle.std.specs.Prelude.{◌≡◌, ⊤, ℕ, List, map, length, slice_get, Bool, true, false, Option, Result, Ok, Err}
 use Rattle.std.specs.Option.{option_map, option_map_or}
 use Rattle.dm_grammar.specs.Grammar.{Grammar}
 use Rattle.dm_grammar.specs.Sentence.{IsSentence, IsReading}

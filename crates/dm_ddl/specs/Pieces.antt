@@ -1,6 +1,6 @@
 -- The tokens of a statement with their terminals and roles, and the definitions and changes into which roles split them.
 use Rattle.std.specs.Prelude.{ℕ, ◌-◌, Bool, ◌==◌, List, [], ◌∷◌, map, take, drop, Option, if◌then◌else◌}
-use Rattle.std.specs.List.{list_any, before_first, find, filter, zip}
+use Rattle.std.specs.List.{list_any, before_first, find, zip}
 use Rattle.dm_lex.specs.declared.token.Token.{Token}
 use Rattle.dm_lex.specs.declared.token.TokenKind.{TokenKind}
 use Rattle.dm_lex.specs.declared.token.TokenKind.TheVariants as token

@@ -151,11 +151,7 @@ fn default_text(alloc: Global, text: &[u8], item: &[Piece]) -> Result<Bytes, All
 }
 
 /// What a change that defines no column and no key says.
-fn other_change(
-    alloc: Global,
-    text: &[u8],
-    item: &[Piece],
-) -> Result<Option<Change>, AllocError>
+fn other_change(alloc: Global, text: &[u8], item: &[Piece]) -> Result<Option<Change>, AllocError>
     ensures { IfOk result (λ change. change ≡ other_change text.now item.now) }
 {
     if has_role(item, role::PRIMARY_KEY) {
@@ -181,11 +177,7 @@ fn other_change(
 }
 
 /// What a change says that renames, or has no effect.
-fn rename_or_none(
-    alloc: Global,
-    text: &[u8],
-    item: &[Piece],
-) -> Result<Option<Change>, AllocError>
+fn rename_or_none(alloc: Global, text: &[u8], item: &[Piece]) -> Result<Option<Change>, AllocError>
     ensures { IfOk result (λ change. change ≡ rename_or_none text.now item.now) }
 {
     if has_role(item, role::RENAMED_KEY) {

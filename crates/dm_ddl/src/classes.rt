@@ -158,8 +158,7 @@ fn is_rest_in(class: Class, kind: Kind) -> bool
             !(is_between(terminal::CREATE, terminal::RENAME, kind) || begins_row_statement(kind))
         }
         class::NOT_CREATED => {
-            !(kind == terminal::TABLE
-                || is_between(terminal::UNIQUE, terminal::FULLTEXT, kind))
+            !(kind == terminal::TABLE || is_between(terminal::UNIQUE, terminal::FULLTEXT, kind))
         }
         class::NOT_DROPPED => !(kind == terminal::TABLE || kind == terminal::INDEX),
         class::NOT_TABLE => kind != terminal::TABLE,

@@ -21,12 +21,7 @@ struct SqlDefaults;
 impl DefaultReading for SqlDefaults {
     ghost reads = { λ _. default_value_of };
 
-    fn value(
-        &self,
-        alloc: Global,
-        kind: Kind,
-        text: &[u8],
-    ) -> Result<Option<Value>, AllocError> {
+    fn value(&self, alloc: Global, kind: Kind, text: &[u8]) -> Result<Option<Value>, AllocError> {
         if text.len() > u32::MAX as usize {
             return Err(AllocError);
         }

@@ -16,10 +16,7 @@ use std::alloc::{AllocError, Global};
 #[derive(Debug, Drop, PartialEq, Eq)]
 pub enum Head {
     /// `only_new`: IF NOT EXISTS is written.
-    Create {
-        table: Named,
-        only_new: bool,
-    },
+    Create { table: Named, only_new: bool },
     Alter(Named),
     CreateIndex(Named),
     DropIndex(Named),

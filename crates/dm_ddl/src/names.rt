@@ -31,7 +31,11 @@ fn unquoted(alloc: Global, bytes: &[u8]) -> Result<Vec<u8>, AllocError>
     let mut rest = bytes;
     while let [first, _, ..] = rest {
         name.push(*first)?;
-        rest = if *first == b'`' { &rest[2..] } else { &rest[1..] };
+        rest = if *first == b'`' {
+            &rest[2..]
+        } else {
+            &rest[1..]
+        };
     }
     Ok(name)
 }

@@ -114,7 +114,6 @@ macro_rules! create_index_head {
     };
 }
 
-
 const ANYTHING: Rule<'static> = Rule::Many(&plain!(class::ANY));
 
 const SECOND_PART: Rule<'static> = optional!(all_of!(
@@ -203,11 +202,7 @@ const LITERAL: Rule<'static> = one_of!(
 
 const DEFAULT_VALUE: Rule<'static> = all_of!(
     token!(terminal::DEFAULT, role::DEFAULT),
-    one_of!(
-        LITERAL,
-        moment!(role::NOW),
-        unsupported!(terminal::OPENING)
-    )
+    one_of!(LITERAL, moment!(role::NOW), unsupported!(terminal::OPENING))
 );
 
 const CHARACTER_SET: Rule<'static> = one_of!(
@@ -289,8 +284,7 @@ const UNIQUE_KEY: Rule<'static> = all_of!(
     KEY_BODY
 );
 
-const PLAIN_KEY: Rule<'static> =
-    all_of!(token!(class::PLAIN_KEY, role::PLAIN_KEY), Rule::Skip);
+const PLAIN_KEY: Rule<'static> = all_of!(token!(class::PLAIN_KEY, role::PLAIN_KEY), Rule::Skip);
 
 const FOREIGN_KEY: Rule<'static> = unsupported!(terminal::FOREIGN);
 
@@ -442,8 +436,10 @@ pub const OTHER_CHANGE: Rule<'static> = one_of!(
 
 pub const ALTER_WORD: Rule<'static> = plain!(terminal::ALTER);
 
-pub const ALTER_TABLE_HEAD: Rule<'static> =
-    all_of!(token!(terminal::TABLE, role::ALTER_TABLE), TABLE_NAME);
+pub const ALTER_TABLE_HEAD: Rule<'static> = all_of!(
+    token!(terminal::TABLE, role::ALTER_TABLE),
+    TABLE_NAME
+);
 
 const CREATE_UNIQUE_INDEX: Rule<'static> = all_of!(
     create_index_head!(role::UNIQUE_INDEX),
@@ -530,9 +526,11 @@ macro_rules! any_other {
     };
 }
 
-
-pub const OTHER_STATEMENT: Rule<'static> =
-    any_other!(CREATE_UNIQUE_INDEX, CREATE_PLAIN_INDEX, DROP_INDEX);
+pub const OTHER_STATEMENT: Rule<'static> = any_other!(
+    CREATE_UNIQUE_INDEX,
+    CREATE_PLAIN_INDEX,
+    DROP_INDEX
+);
 
 pub const CREATE_TABLE_START: Rule<'static> = all_of!(
     plain!(terminal::CREATE),

@@ -23,7 +23,11 @@ pub fn read_create_table(alloc: Global, kinds: &[Kind]) -> Result<Reading, Alloc
 }
 
 /// A CREATE TABLE whose columns have this definition.
-fn create_table_of<'a>(alloc: Global, column: &'a Rule<'a>, kinds: &[Kind]) -> Result<Reading, AllocError>
+fn create_table_of<'a>(
+    alloc: Global,
+    column: &'a Rule<'a>,
+    kinds: &[Kind],
+) -> Result<Reading, AllocError>
     requires kinds { All (λ kind. kind < KIND_LIMIT) kinds.now }
     requires column { meaning column.now ≡ column_definition }
     ensures exact { IfOk result (λ reading.
@@ -156,4 +160,3 @@ pub fn read_other_start(alloc: Global, kinds: &[Kind]) -> Result<Reading, AllocE
 {
     dm_grammar::read(alloc, &StatementClasses, &OTHER_START, kinds)
 }
-

@@ -1,4 +1,4 @@
-use Rattle.std.proofs.Common.{◌∙◌, ap, unwrap_or, Option, refl}
+use Rattle.std.proofs.Common.{◌∙◌, ap, unwrap_or, Option}
 use Rattle.dm_schema.specs.declared.column.DefaultRule.{DefaultRule}
 use Rattle.dm_schema.specs.declared.column.DefaultRule.TheVariants as default
 use Rattle.dm_ddl.specs.declared.role.TheConstants as role

@@ -1,4 +1,4 @@
-use Rattle.std.proofs.Common.{◌≡◌, ◌∷◌, [], fold, length, Some, None, List, Option}
+use Rattle.std.proofs.Common.{◌≡◌, ◌∷◌, [], fold, length, Some, List, Option}
 use Rattle.std.specs.Option.{option_map}
 use Rattle.dm_ddl.specs.declared.piece.Piece.{Piece}
 use Rattle.dm_ddl.specs.declared.role.TheConstants as role

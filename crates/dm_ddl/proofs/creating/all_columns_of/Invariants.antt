@@ -1,4 +1,4 @@
-use Rattle.std.proofs.Common.{◌≡◌, ◌++◌, ◌||◌, length, drop, true, None}
+use Rattle.std.proofs.Common.{◌≡◌, ◌++◌, drop}
 use Rattle.dm_ddl.specs.Creating.{all_columns_of}
 use Rattle.dm_ddl.proofs.creating.all_columns_of.Given as goal
 

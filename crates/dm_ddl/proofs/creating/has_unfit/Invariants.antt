@@ -1,4 +1,4 @@
-use Rattle.std.proofs.Common.{◌≡◌, ◌++◌, ◌||◌, length, drop, true, None}
+use Rattle.std.proofs.Common.{◌≡◌, length, None}
 use Rattle.dm_ddl.specs.Bounds.{items_of, first_excess}
 use Rattle.std.specs.List.{list_any}
 use Rattle.dm_ddl.specs.Columns.{is_unfit}

@@ -1,5 +1,5 @@
-use Rattle.std.proofs.Common.{◌≡◌, ◌++◌, ◌||◌, length, drop, true, None}
-use Rattle.dm_ddl.specs.Bounds.{items_of, first_excess}
+use Rattle.std.proofs.Common.{◌≡◌, ◌++◌, length}
+use Rattle.dm_ddl.specs.Bounds.{items_of}
 use Rattle.dm_ddl.specs.Creating.{primaries_in}
 use Rattle.dm_ddl.proofs.creating.primaries_in.Given as goal
 

@@ -2,7 +2,6 @@ use Rattle.std.proofs.Common.{◌∙◌, ◌≡◌, List, Result, Ok, sym, ap}
 use Rattle.dm_lex.specs.declared.token.Token.{Token}
 use Rattle.dm_lex.specs.declared.token.LexFault.{LexFault}
 use Rattle.dm_lex.specs.Tokens.{tokens_of}
-use Rattle.dm_ddl.specs.Parsing.{kinds_of}
 use Rattle.dm_ddl.proofs.Terminals.{kinds_small}
 use Rattle.dm_ddl.proofs.Answering.{each_is_parsed, same_pieces}
 use Rattle.dm_ddl.proofs.parsing.parse.Goals as goal

@@ -23,7 +23,7 @@ returns-clause-each c = λ statement says.
     let parsed = c.in_ok-parsed.parsed in
     let one = only_answer extent.Whole text (statement_unless text) parsed.pieces.items parsed.fault (statement_strict text) c.in_ok-parsed.ensures.each statement says in
     let same : ◌≡◌ {A = Result Statement DdlFault} (statement_unless text c.deref.result.now parsed.fault) (Ok statement) =
-        ap (λ (ps : List Piece). statement_unless text ps parsed.fault) c.deref.ensures.value ∙ ap (statement_unless text parsed.pieces.items) one.0 ∙ sym one.1 in
+    ap (λ (ps : List Piece). statement_unless text ps parsed.fault) c.deref.ensures.value ∙ ap (statement_unless text parsed.pieces.items) one.0 ∙ sym one.1 in
     subst (λ (x : Result Statement DdlFault). Answers is_memory c.statement_unless.result x) same c.statement_unless.ensures
 
 pub returns-clause-formed : goal.returns-clause-formed
