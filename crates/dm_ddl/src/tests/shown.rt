@@ -151,7 +151,7 @@ fn push_change(alloc: Global, out: &mut Vec<u8>, change: &Change) -> Result<(), 
             null_written: false,
         } => push_placed(alloc, out, "modify ", column, spot),
         Change::Modify { column, spot, .. } => {
-            push_placed(alloc, out, "modify to null ", column, spot)
+            push_placed(alloc, out, "modify with NULL ", column, spot)
         }
         Change::SetDefault { name, text } => {
             push_word(out, "default ", name)?;

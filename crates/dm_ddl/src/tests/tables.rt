@@ -82,6 +82,29 @@ ALTER TABLE t ADD c INT AUTOINCREMENT => Syntax 24
 ALTER TABLE t ADD c TINYINT DEFAULT 128 => Made DefaultUnfit
 ALTER TABLE t ADD c CHAR(1) DEFAULT 'ab' => Made DefaultUnfit
 ALTER TABLE t ADD c INT NOT NULL DEFAULT NULL => Made DefaultUnfit
+ALTER TABLE t ADD c CHARACTER VARYING(5) => Unsupported 20
+ALTER TABLE t ADD c NOT NULL => Unsupported 20
+ALTER TABLE t ADD c  => Syntax 20
+ALTER TABLE t ADD c BOOL(1) => Syntax 24
+ALTER TABLE t ADD c DECIMAL(5,2) SIGNED => Syntax 33
+ALTER TABLE t ADD c INT(5,2) => Syntax 25
+ALTER TABLE t ADD c TEXT DEFAULT 0x => Syntax 34
+ALTER TABLE t ADD c INT DEFAULT -0x41 => Syntax 33
+ALTER TABLE t ADD c INT DEFAULT 1.5 => Made DefaultUnfit
+ALTER TABLE t ADD c INT DEFAULT 0x05 => Made DefaultUnfit
+ALTER TABLE t ADD c YEAR DEFAULT 99 => Made DefaultUnfit
+ALTER TABLE t ADD (a DECIMAL(5,5), b DECIMAL(3,4)) => Unsupported 47
+ALTER TABLE Tä ADD ÄB VARCHAR(1) DEFAULT 'ä' => Tä: add Äb Varchar(1) NULL DEFAULT <ä> last
+ALTER TABLE ä ADD c FLOAT => Unsupported 21
+ALTER TABLE t ADD c TIMESTAMP NOT NULL DEFAULT '0000-00-00 00:00:00' => t: add c Timestamp(0) NOT NULL DEFAULT 0 0 last
+ALTER TABLE t ADD c DATE NOT NULL DEFAULT '0000-00-00' => t: add c Date NOT NULL DEFAULT 0-0-0 last
+ALTER TABLE t ADD c VARCHAR(9) DEFAULT 'it\\'s 5\\%' => t: add c Varchar(9) NULL DEFAULT <it's 5\\%> last
+ALTER TABLE t ADD c INT UNIQUE UNIQUE => t: add c Signed(4) NULL last; nameless unique  (c)
+ALTER TABLE t ADD c VARCHAR(0000000000000000000000009) => t: add c Varchar(9) NULL last
+ALTER TABLE t ADD c VARCHAR(9) DEFAULT 5 => Made DefaultUnfit
+ALTER TABLE t ADD c DATETIME DEFAULT '2024-01-01' => Made DefaultUnfit
+ALTER TABLE t ADD c TIMESTAMP DEFAULT '1970-01-01 00:00:00' => Made DefaultUnfit
+ALTER TABLE t ADD c LONGTEXT CHARACTER SET utf8mb4 CHECK (json_valid(c)) => Syntax 51
 ";
 
 /// Tables that are created: their names, keys, options and comments.
@@ -149,6 +172,20 @@ CREATE TABLE t (`id INT KEY) => Lex 16
 /* a */ CREATE /*!40101 x */ TABLE t(id INT KEY)# ' => create t: id Signed(4) NOT NULL, primary (id)
 CREATE TABLE t (id INT KEY -- ) => Syntax 31
 CREATE TABLE t (id INT KEY --1) => Syntax 27
+CREATE TABLE `` (`` INT KEY) => create :  Signed(4) NOT NULL, primary ()
+CREATE TABLE t (id INT, PRIMARY KEY pk (id)) => Syntax 36
+CREATE TABLE t (id INT, PRIMARY KEY (id), PRIMARY KEY (id), UNIQUE (id), UNIQUE (id), UNIQUE (id), UNIQUE (id), UNIQUE (id), UNIQUE (id), UNIQUE (id), UNIQUE (id), UNIQUE (id), UNIQUE (id), UNIQUE (id), UNIQUE (id), UNIQUE (id), UNIQUE (id), UNIQUE (id), UNIQUE (id), UNIQUE (id)) => Made TooMany
+CREATE TABLE t (id INT, ID INT) => Made Duplicate
+CREATE TABLE t (id INT, UNIQUE (w)) => Made NoPrimary
+CREATE TABLE t (id INT NULL KEY, UNIQUE (w)) => Made UnknownColumn
+CREATE TABLE t (id TINYINT NULL DEFAULT 300 KEY) => Made NullablePrimary
+CREATE TABLE IF NOT EXISTS d.t LIKE u => Unsupported 31
+CREATE TABLE t (id INT KEY) -- => create t: id Signed(4) NOT NULL, primary (id)
+SELECT 'x => Lex 7
+CREATE TABLE t NOT x => Syntax 15
+CREATE TABLE t (id INT KEY PRIMARY KEY) => create t: id Signed(4) NOT NULL, primary (id)
+CREATE TABLE t (id INT KEY, v INT KEY) => Made Duplicate
+CREATE TABLE t (id INT KEY) ) x => create t: id Signed(4) NOT NULL, primary (id)
 ";
 
 /// Changes of tables.
@@ -157,7 +194,7 @@ alter table D.T add column A int first, add B int after A, add (c int, d int) =>
 ALTER TABLE t ADD COLUMN (c INT FIRST) => Syntax 32
 ALTER TABLE t ADD c INT, d INT => Unsupported 25
 ALTER TABLE t MODIFY v BIGINT NOT NULL => t: modify v Signed(8) NOT NULL keep
-ALTER TABLE t MODIFY COLUMN v BIGINT UNSIGNED NULL FIRST => t: modify to null v Unsigned(8) NULL first
+ALTER TABLE t MODIFY COLUMN v BIGINT UNSIGNED NULL FIRST => t: modify with NULL v Unsigned(8) NULL first
 ALTER TABLE t MODIFY v INT AFTER `W` => t: modify v Signed(4) NULL after w
 ALTER TABLE t MODIFY id INT NULL AUTO_INCREMENT => t: modify id Signed(4) NOT NULL keep
 ALTER TABLE t MODIFY v INT UNIQUE => t: modify v Signed(4) NULL keep; nameless unique  (v)
@@ -205,6 +242,24 @@ CREATE UNIQUE INDEX k ON t (a) LOCK=NONE => Syntax 31
 DROP INDEX K ON d.t => d.t: drop key k
 DROP INDEX `PRIMARY` ON t => t: refused PrimaryChange
 DROP INDEX k ON t LOCK=NONE => Syntax 18
+ALTER TABLE t MODIFY v INT NULL NOT NULL => t: modify with NULL v Signed(4) NOT NULL keep
+ALTER TABLE t MODIFY v INT DEFAULT NULL => t: modify v Signed(4) NULL keep
+ALTER TABLE t ADD c INT FIRST NOT NULL => Syntax 30
+ALTER TABLE t ADD c TINYINT DEFAULT 300, FOO => Unsupported 41
+ALTER TABLE t RENAME u, ADD c TINYINT DEFAULT 300 => Made DefaultUnfit
+ALTER TABLE t CHANGE a b TINYINT DEFAULT 300 => Made DefaultUnfit
+ALTER TABLE t MODIFY id INT AUTO_INCREMENT DEFAULT NULL => Made DefaultUnfit
+ALTER TABLE t AUTO_INCREMENT=-5 => Syntax 29
+ALTER TABLE t ADD KEY i (v)) => Syntax 27
+ALTER TABLE t DROP CHECK c, ADD d FLOAT => Syntax 19
+ALTER TABLE t ADD c CHAR(256), FOO => Unsupported 25
+ALTER TABLE IF EXISTS t ADD c INT => Unsupported 15
+ALTER TABLE t ADD COLUMN IF NOT EXISTS c INT => Unsupported 28
+ALTER TABLE t DROP COLUMN IF EXISTS c => Syntax 29
+DROP INDEX IF EXISTS k ON t => Syntax 14
+ALTER VIEW v AS SELECT 1 => Other
+ALTER TABLE t ADD (a INT KEY, b INT AUTO_INCREMENT) => t: refused PrimaryChange; refused NoFill
+ALTER TABLE t DROP a,  => Syntax 22
 ";
 
 /// Heads of statements.
@@ -250,6 +305,16 @@ WITH x AS (SELECT 1) DELETE FROM t => no table
 `CREATE` TABLE t (id INT) => no table
 BEGIN => no table
 /* CREATE TABLE t */ => no table
+CREATE TABLE t => create t
+DROP TABLE if.a, IF.EXISTS => drop if.a IF.EXISTS
+ALTER TABLE IF EXISTS t ADD c INT => alter IF
+TRUNCATE TABLE  => Syntax 15
+CREATE INDEX i ON t => create index t
+ => no table
+CREATE TABLE IF EXISTS t (a INT) => create IF
+DROP TABLE IF NOT EXISTS a => drop IF
+DROP TABLE IF => drop IF
+(SELECT 1) => no table
 ";
 
 /// Texts of SHOW CREATE TABLE by MySQL 5.7, MySQL 8.0 and MariaDB, and one with comments, with semicolons between them.
@@ -261,6 +326,7 @@ CREATE TABLE `Orders` (
   `price` decimal(10,2) NOT NULL DEFAULT '0.00',
   `seen` datetime(3) DEFAULT CURRENT_TIMESTAMP(3),
   `note` mediumtext,
+  `gone` timestamp NULL DEFAULT NULL,
   PRIMARY KEY (`Id`),
   UNIQUE KEY `Mail` (`Mail`),
   KEY `made` (`made`) USING BTREE,
@@ -281,6 +347,8 @@ CREATE TABLE `t` (
   KEY `p` (`Name`(10)) /*!80000 INVISIBLE */,
   CONSTRAINT `c` CHECK ((`flag` in (0,1)))
 ) ENGINE=InnoDB DEFAULT CHARSET=utf8mb4 COLLATE=utf8mb4_0900_ai_ci
+/*!50100 PARTITION BY HASH (`id`)
+PARTITIONS 4 */
 ;
 CREATE TABLE `t` (
   `id` int(11) NOT NULL AUTO_INCREMENT COMMENT 'key',
@@ -300,7 +368,7 @@ CREATE TABLE t ( -- the table (
 )";
 
 pub const PRINTED_SCHEMAS: &str = "\
-create Orders: id Unsigned(4) NOT NULL, mail Varchar(100) NULL, made Timestamp(0) NOT NULL DEFAULT now, price Decimal(10, 2) NOT NULL DEFAULT 0e-2, seen Datetime(3) NULL DEFAULT now, note Text(3) NULL, primary (id), unique mail (mail)
+create Orders: id Unsigned(4) NOT NULL, mail Varchar(100) NULL, made Timestamp(0) NOT NULL DEFAULT now, price Decimal(10, 2) NOT NULL DEFAULT 0e-2, seen Datetime(3) NULL DEFAULT now, note Text(3) NULL, gone Timestamp(0) NULL, primary (id), unique mail (mail)
 create t: id Signed(8) NOT NULL, flag Signed(1) NOT NULL DEFAULT 1, name Varchar(20) NOT NULL DEFAULT <>, hid Signed(4) NULL, y Year NULL, d Date NULL DEFAULT 2020-1-1, b Varbinary(16) NULL, primary (id,flag), unique u (name,d)
 create t: id Signed(4) NOT NULL, n Signed(4) NOT NULL DEFAULT 5, v Varchar(9) NULL DEFAULT <a\\b>, at Datetime(0) NOT NULL DEFAULT now, s Text(2) NULL, f Decimal(5, 1) NOT NULL DEFAULT -15e-1, primary (id), unique n (n)
 create t: id Signed(4) NOT NULL, primary (id)
