@@ -12,18 +12,18 @@ use Rattle.dm_schema.specs.Layout.{Layout}
 use Rattle.dm_schema.specs.Kinds.{is_column, is_key, is_folded}
 use Rattle.dm_schema.specs.Effect.{named_key}
 use Rattle.dm_alter.proofs.Formed.{key_formed}
-use Rattle.dm_ddl.specs.declared.fault.DdlFault.{DdlFault}
+use Rattle.dm_syntax.specs.declared.fault.DdlFault.{DdlFault}
 use Rattle.dm_ddl.specs.declared.keys.WrittenKey.{WrittenKey}
-use Rattle.dm_ddl.specs.declared.piece.Piece.{Piece}
-use Rattle.dm_ddl.specs.declared.role.TheConstants as role
-use Rattle.dm_ddl.specs.Pieces.{has_role}
+use Rattle.dm_syntax.specs.declared.piece.Piece.{Piece}
+use Rattle.dm_syntax.specs.declared.role.TheConstants as role
+use Rattle.dm_syntax.specs.Pieces.{has_role}
 use Rattle.dm_ddl.specs.Names.{folded_name, folded_with, name_of}
 use Rattle.dm_ddl.specs.Bounds.{excess_in, first_excess}
 use Rattle.dm_ddl.specs.Types.{type_word, kind_in}
 use Rattle.dm_ddl.specs.Columns.{last_default, nullable_in, column_name, column_in, default_in, is_unfit}
 use Rattle.dm_ddl.specs.Keys.{key_parts, key_name, key_over, key_of_column, unique_keys}
 use Rattle.dm_ddl.specs.Creating.{columns_in, primaries_in, all_columns_of, named_behind, uniques_in, created, schema_in}
-use Rattle.dm_ddl.specs.Parsing.{is_memory, made}
+use Rattle.dm_syntax.specs.Parsing.{is_memory, made}
 use Rattle.dm_list.specs.Answer.{first_refusal}
 use Rattle.std.specs.Prelude.{codes}
 use Rattle.dm_schema.specs.Names.{same_name}

@@ -13,9 +13,9 @@ use Rattle.dm_schema.specs.declared.column.DefaultRule.TheVariants as default
 use Rattle.dm_schema.specs.Kinds.{is_between, is_folded, is_kind, is_rule, is_column}
 use Rattle.dm_schema.specs.Effect.{rule_by}
 use Rattle.dm_lex.specs.Literals.{lower}
-use Rattle.dm_ddl.specs.declared.piece.Piece.{Piece}
-use Rattle.dm_ddl.specs.declared.role.TheConstants as role
-use Rattle.dm_ddl.specs.Pieces.{first_with, has_role}
+use Rattle.dm_syntax.specs.declared.piece.Piece.{Piece}
+use Rattle.dm_syntax.specs.declared.role.TheConstants as role
+use Rattle.dm_syntax.specs.Pieces.{first_with, has_role}
 use Rattle.dm_ddl.specs.Names.{name_of, folded_name, folded_with}
 use Rattle.dm_ddl.specs.Types.{kind_in}
 use Rattle.dm_ddl.specs.Columns.{literal_in, last_default, rule_in, nullable_in, column_name, default_in}

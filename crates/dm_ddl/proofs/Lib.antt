@@ -1,9 +1,5 @@
-pub mod Answering
 pub mod Definitions
 pub mod Formed
 pub mod Numbers
-pub mod PartsLemmas
 pub mod Ranges
-pub mod Ready
 pub mod StatementLemmas
-pub mod Terminals

@@ -8,10 +8,10 @@ use Rattle.std.specs.Prelude.{nat_le}
 use Rattle.dm_schema.specs.declared.column.Kind.{Kind}
 use Rattle.dm_schema.specs.declared.column.Kind.TheVariants as kind
 use Rattle.dm_schema.specs.Kinds.{is_kind, is_integer_size}
-use Rattle.dm_ddl.specs.declared.terminal.TheConstants as terminal
-use Rattle.dm_ddl.specs.declared.piece.Piece.{Piece}
-use Rattle.dm_ddl.specs.declared.role.TheConstants as role
-use Rattle.dm_ddl.specs.Pieces.{first_with, has_role}
+use Rattle.dm_syntax.specs.declared.terminal.TheConstants as terminal
+use Rattle.dm_syntax.specs.declared.piece.Piece.{Piece}
+use Rattle.dm_syntax.specs.declared.role.TheConstants as role
+use Rattle.dm_syntax.specs.Pieces.{first_with, has_role}
 use Rattle.dm_ddl.specs.Bounds.{number_in, number_or, precision_in, is_in_range, is_out_of_range, excess_in}
 use Rattle.dm_ddl.specs.Types.{integer_kind, kind_of_word}
 

@@ -6,21 +6,21 @@ use Rattle.dm_list.specs.Answer.{Answers}
 use Rattle.dm_schema.specs.Layout.{Layout}
 use Rattle.dm_schema.specs.declared.fault.SchemaFault.{SchemaFault}
 use Rattle.dm_schema.specs.declared.fault.SchemaFault.TheVariants as schema_fault
-use Rattle.dm_ddl.specs.declared.fault.DdlFault.{DdlFault}
-use Rattle.dm_ddl.specs.declared.fault.DdlFault.TheVariants as fault
-use Rattle.dm_ddl.specs.declared.piece.Piece.{Piece}
-use Rattle.dm_ddl.specs.declared.role.TheConstants as role
+use Rattle.dm_syntax.specs.declared.fault.DdlFault.{DdlFault}
+use Rattle.dm_syntax.specs.declared.fault.DdlFault.TheVariants as fault
+use Rattle.dm_syntax.specs.declared.piece.Piece.{Piece}
+use Rattle.dm_syntax.specs.declared.role.TheConstants as role
 use Rattle.dm_ddl.specs.declared.statements.Statement.{Statement}
 use Rattle.dm_ddl.specs.declared.statements.Statement.TheVariants as statement
-use Rattle.dm_ddl.specs.Pieces.{has_role}
+use Rattle.dm_syntax.specs.Pieces.{has_role}
 use Rattle.dm_ddl.specs.Names.{first_table}
 use Rattle.dm_ddl.specs.Bounds.{items_of, first_excess}
 use Rattle.dm_ddl.specs.Columns.{is_unfit}
 use Rattle.dm_ddl.specs.Creating.{schema_in}
 use Rattle.dm_ddl.specs.Altering.{changes_in}
-use Rattle.dm_ddl.specs.Parsing.{is_memory, made}
+use Rattle.dm_syntax.specs.Parsing.{is_memory, made}
 use Rattle.dm_ddl.specs.Statements.{alters, create_of, alter_of, statement_of, unless_excess, unless_fault, statement_unless, are_changes}
-use Rattle.dm_ddl.proofs.Answering.{IsStrict}
+use Rattle.dm_syntax.proofs.Answering.{IsStrict}
 use Rattle.dm_ddl.proofs.Definitions.{changes_formed}
 
 pub statement_strict : (text : List ℕ) → IsStrict (statement_unless text)

@@ -3,9 +3,9 @@ use Rattle.std.specs.Prelude.{ℕ, ◌^◌, ◌-◌, nat_lt, Bool, true, not, �
 use Rattle.std.specs.Option.{option_map_or, option_or}
 use Rattle.std.specs.List.{find}
 use Rattle.dm_time.specs.Texts.{number_of}
-use Rattle.dm_ddl.specs.declared.piece.Piece.{Piece}
-use Rattle.dm_ddl.specs.declared.role.TheConstants as role
-use Rattle.dm_ddl.specs.Pieces.{bytes_of, first_with, begins, parts}
+use Rattle.dm_syntax.specs.declared.piece.Piece.{Piece}
+use Rattle.dm_syntax.specs.declared.role.TheConstants as role
+use Rattle.dm_syntax.specs.Pieces.{bytes_of, first_with, begins, parts}
 
 -- a number, as far as 64 bits hold it: all ranges end far below
 abbrev pub held : ℕ → ℕ

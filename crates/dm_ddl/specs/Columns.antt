@@ -7,9 +7,9 @@ use Rattle.dm_schema.specs.declared.column.DefaultRule.{DefaultRule}
 use Rattle.dm_schema.specs.declared.column.DefaultRule.TheVariants as default
 use Rattle.dm_schema.specs.Effect.{is_among, rule_by}
 use Rattle.dm_lex.specs.Literals.{literal_of}
-use Rattle.dm_ddl.specs.declared.piece.Piece.{Piece}
-use Rattle.dm_ddl.specs.declared.role.TheConstants as role
-use Rattle.dm_ddl.specs.Pieces.{bytes_of, first_with, has_role, begins, parts}
+use Rattle.dm_syntax.specs.declared.piece.Piece.{Piece}
+use Rattle.dm_syntax.specs.declared.role.TheConstants as role
+use Rattle.dm_syntax.specs.Pieces.{bytes_of, first_with, has_role, begins, parts}
 use Rattle.dm_ddl.specs.Names.{folded_with}
 use Rattle.dm_ddl.specs.Types.{kind_in}
 

@@ -9,9 +9,9 @@ use Rattle.dm_schema.specs.Layout.{Layout}
 use Rattle.dm_schema.specs.Schemas.{is_too_many, schema_of}
 use Rattle.dm_schema.specs.Effect.{named_key}
 use Rattle.dm_ddl.specs.declared.keys.WrittenKey.{WrittenKey}
-use Rattle.dm_ddl.specs.declared.piece.Piece.{Piece}
-use Rattle.dm_ddl.specs.declared.role.TheConstants as role
-use Rattle.dm_ddl.specs.Pieces.{has_role}
+use Rattle.dm_syntax.specs.declared.piece.Piece.{Piece}
+use Rattle.dm_syntax.specs.declared.role.TheConstants as role
+use Rattle.dm_syntax.specs.Pieces.{has_role}
 use Rattle.dm_ddl.specs.Columns.{column_in, is_unfit}
 use Rattle.dm_ddl.specs.Keys.{unique_keys, primary_keys}
 

@@ -6,8 +6,8 @@ use Rattle.dm_lex.specs.declared.token.Token.{Token}
 use Rattle.dm_lex.specs.declared.token.LexFault.{LexFault}
 use Rattle.dm_lex.specs.Tokens.{tokens_of}
 use Rattle.dm_lex.specs.Literals.{literal_of}
-use Rattle.dm_ddl.specs.declared.terminal.TheConstants as terminal
-use Rattle.dm_ddl.specs.Pieces.{bytes_of, terminal_of}
+use Rattle.dm_syntax.specs.declared.terminal.TheConstants as terminal
+use Rattle.dm_syntax.specs.Pieces.{bytes_of, terminal_of}
 
 abbrev pub value_of_tokens : List ℕ → Kind → List Token → Option Value
 value_of_tokens text k [] = None

@@ -1,11 +1,11 @@
 -- The heads of statements: what kind of statement it is, and the tables that it names.
 use Rattle.std.specs.Prelude.{ℕ, List, Option, Some, None, Result, Ok, Err, if◌then◌else◌}
-use Rattle.dm_ddl.specs.declared.fault.DdlFault.{DdlFault}
+use Rattle.dm_syntax.specs.declared.fault.DdlFault.{DdlFault}
 use Rattle.dm_ddl.specs.declared.heads.Head.{Head}
 use Rattle.dm_ddl.specs.declared.heads.Head.TheVariants as head
-use Rattle.dm_ddl.specs.declared.piece.Piece.{Piece}
-use Rattle.dm_ddl.specs.declared.role.TheConstants as role
-use Rattle.dm_ddl.specs.Pieces.{has_role}
+use Rattle.dm_syntax.specs.declared.piece.Piece.{Piece}
+use Rattle.dm_syntax.specs.declared.role.TheConstants as role
+use Rattle.dm_syntax.specs.Pieces.{has_role}
 use Rattle.dm_ddl.specs.Names.{tables_in, first_table}
 
 -- what the roles of a statement's head say of it

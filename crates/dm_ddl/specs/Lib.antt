@@ -1,15 +1,10 @@
 pub mod Altering
 pub mod Bounds
-pub mod Classes
 pub mod Columns
 pub mod Creating
 pub mod Defaults
 pub mod Heads
 pub mod Keys
 pub mod Names
-pub mod Parsing
-pub mod Pieces
-pub mod Productions
 pub mod Statements
 pub mod Types
-pub mod Words

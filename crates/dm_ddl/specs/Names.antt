@@ -6,10 +6,10 @@ use Rattle.dm_lex.specs.declared.token.Token.{Token}
 use Rattle.dm_lex.specs.declared.token.TokenKind.{TokenKind}
 use Rattle.dm_lex.specs.declared.token.TokenKind.TheVariants as token
 use Rattle.dm_lex.specs.Literals.{lower}
-use Rattle.dm_ddl.specs.declared.piece.Piece.{Piece}
+use Rattle.dm_syntax.specs.declared.piece.Piece.{Piece}
 use Rattle.dm_ddl.specs.declared.names.Named.{Named}
-use Rattle.dm_ddl.specs.declared.role.TheConstants as role
-use Rattle.dm_ddl.specs.Pieces.{bytes_of, first_with, has_role, begins, parts}
+use Rattle.dm_syntax.specs.declared.role.TheConstants as role
+use Rattle.dm_syntax.specs.Pieces.{bytes_of, first_with, has_role, begins, parts}
 
 -- what stands behind an opening backquote, up to the closing one: two backquotes stand for one
 abbrev pub unquoted : List ℕ → List ℕ

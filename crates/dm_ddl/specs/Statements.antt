@@ -5,13 +5,13 @@ use Rattle.dm_schema.specs.Effect.{is_change}
 use Rattle.dm_schema.specs.Layout.{Layout}
 use Rattle.dm_schema.specs.declared.fault.SchemaFault.{SchemaFault}
 use Rattle.dm_schema.specs.declared.fault.SchemaFault.TheVariants as schema_fault
-use Rattle.dm_ddl.specs.declared.fault.DdlFault.{DdlFault}
-use Rattle.dm_ddl.specs.declared.fault.DdlFault.TheVariants as fault
-use Rattle.dm_ddl.specs.declared.piece.Piece.{Piece}
-use Rattle.dm_ddl.specs.declared.role.TheConstants as role
+use Rattle.dm_syntax.specs.declared.fault.DdlFault.{DdlFault}
+use Rattle.dm_syntax.specs.declared.fault.DdlFault.TheVariants as fault
+use Rattle.dm_syntax.specs.declared.piece.Piece.{Piece}
+use Rattle.dm_syntax.specs.declared.role.TheConstants as role
 use Rattle.dm_ddl.specs.declared.statements.Statement.{Statement}
 use Rattle.dm_ddl.specs.declared.statements.Statement.TheVariants as statement
-use Rattle.dm_ddl.specs.Pieces.{has_role}
+use Rattle.dm_syntax.specs.Pieces.{has_role}
 use Rattle.dm_ddl.specs.Names.{first_table}
 use Rattle.dm_ddl.specs.Bounds.{items_of, first_excess}
 use Rattle.dm_ddl.specs.Columns.{is_unfit}

@@ -3,10 +3,10 @@ use Rattle.std.specs.Prelude.{ℕ, ◌==◌, List, if◌then◌else◌}
 use Rattle.std.specs.Option.{option_map_or}
 use Rattle.dm_schema.specs.declared.column.Kind.{Kind}
 use Rattle.dm_schema.specs.declared.column.Kind.TheVariants as kind
-use Rattle.dm_ddl.specs.declared.piece.Piece.{Piece}
-use Rattle.dm_ddl.specs.declared.role.TheConstants as role
-use Rattle.dm_ddl.specs.declared.terminal.TheConstants as terminal
-use Rattle.dm_ddl.specs.Pieces.{first_with, has_role}
+use Rattle.dm_syntax.specs.declared.piece.Piece.{Piece}
+use Rattle.dm_syntax.specs.declared.role.TheConstants as role
+use Rattle.dm_syntax.specs.declared.terminal.TheConstants as terminal
+use Rattle.dm_syntax.specs.Pieces.{first_with, has_role}
 use Rattle.dm_ddl.specs.Bounds.{number_or, precision_in}
 
 -- the word of the type

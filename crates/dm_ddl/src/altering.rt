@@ -9,12 +9,10 @@ use crate::bounds::ITEM_ROLES;
 use crate::columns::{column_in, column_name, is_primary_column};
 use crate::creating::push_all;
 use crate::keys::{WrittenKey, unique_keys};
-use crate::kinds::bytes_of;
 use crate::names::folded_with;
-use crate::piece::{Piece, first_with, has_role, next_part};
-use crate::role;
 use dm_list::Bytes;
 use dm_schema::{Change, EffectFault, Spot};
+use dm_syntax::{Piece, bytes_of, first_with, has_role, next_part, role};
 use dm_value::Name;
 use std::alloc::{AllocError, Global};
 

@@ -4,10 +4,8 @@ ghost use Rattle.std.specs.List.{find};
 ghost use Rattle.dm_time.specs.Texts.{with_digit, number_of};
 ghost use Rattle.dm_ddl.specs.Bounds.{number_in, number_or, is_in_range, is_out_of_range, excess_in, items_of, first_excess};
 
-use crate::kinds::bytes_of;
-use crate::piece::{Piece, first_with, next_part};
-use crate::role;
 use dm_grammar::Role;
+use dm_syntax::{Piece, bytes_of, first_with, next_part, role};
 
 /// What a definition of a CREATE TABLE, a change of an ALTER TABLE or an index begins with.
 pub const ITEM_ROLES: [Role; 12] = [

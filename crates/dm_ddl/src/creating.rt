@@ -5,17 +5,15 @@ ghost use Rattle.dm_list.specs.Answer.{Answers};
 ghost use Rattle.dm_ddl.specs.Bounds.{items_of, first_excess};
 ghost use Rattle.dm_ddl.specs.Columns.{is_unfit};
 ghost use Rattle.dm_ddl.specs.Creating.{columns_in, primaries_in, all_columns_of, named_behind, uniques_in, created, schema_with, schema_in};
-ghost use Rattle.dm_ddl.specs.Parsing.{is_memory, made};
+ghost use Rattle.dm_syntax.specs.Parsing.{is_memory, made};
 
 use crate::bounds::ITEM_ROLES;
 use crate::columns::{column_in, is_unfit};
-use crate::fault::DdlFault;
 use crate::keys::{WrittenKey, primary_keys, unique_keys};
-use crate::piece::{Piece, has_role, next_part};
-use crate::role;
 use dm_alter::named_key;
 use dm_list::Copied;
 use dm_schema::{Column, Schema, SchemaFault, UniqueKey};
+use dm_syntax::{DdlFault, Piece, has_role, next_part, role};
 use dm_value::{Name, Names};
 use std::alloc::{AllocError, Global};
 

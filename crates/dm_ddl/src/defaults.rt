@@ -7,11 +7,10 @@ ghost use Rattle.dm_alter.specs.Answers.{is_memory};
 ghost use Rattle.dm_ddl.specs.Defaults.{value_of_tokens, default_value_of};
 
 use crate::columns::literal_of;
-use crate::kinds::{bytes_of, terminal_of};
-use crate::terminal;
 use dm_alter::DefaultReading;
 use dm_lex::{LexFault, Token, tokens};
 use dm_schema::{Change, EffectFault, Kind, Schema};
+use dm_syntax::{bytes_of, terminal, terminal_of};
 use dm_value::Value;
 use std::alloc::{AllocError, Global};
 

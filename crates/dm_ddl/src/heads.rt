@@ -1,15 +1,12 @@
 ghost use Rattle.std.specs.Prelude.{◌≡◌, ◌<◌, ◌^◌, Ok, length, IfOk};
 ghost use Rattle.dm_list.specs.Answer.{Answers};
 ghost use Rattle.dm_ddl.specs.declared.heads.Head.{Head};
-ghost use Rattle.dm_ddl.specs.declared.parsing.Extent.TheVariants as extent;
+ghost use Rattle.dm_syntax.specs.declared.parsing.Extent.TheVariants as extent;
 ghost use Rattle.dm_ddl.specs.Heads.{head_of, head_unless};
-ghost use Rattle.dm_ddl.specs.Parsing.{is_memory, OrMemory, Says};
+ghost use Rattle.dm_syntax.specs.Parsing.{is_memory, OrMemory, Says};
 
-use crate::fault::DdlFault;
 use crate::names::{Named, Tables, first_table, tables_in};
-use crate::parsing::{Extent, parse};
-use crate::piece::{Piece, has_role};
-use crate::role;
+use dm_syntax::{DdlFault, Extent, Piece, has_role, parse, role};
 use std::alloc::{AllocError, Global};
 
 /// What kind of statement a text is, and the tables that it names.

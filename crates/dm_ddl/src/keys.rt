@@ -4,9 +4,8 @@ ghost use Rattle.dm_ddl.specs.Keys.{key_parts, key_name, is_named, key_over, key
 
 use crate::columns::{column_name, is_primary_column};
 use crate::names::{all_folded_with, folded_with};
-use crate::piece::{Piece, has_role};
-use crate::role;
 use dm_schema::UniqueKey;
+use dm_syntax::{Piece, has_role, role};
 use dm_value::{Name, Names};
 use std::alloc::{AllocError, Global};
 

@@ -3,30 +3,19 @@
 
 mod altering;
 mod bounds;
-mod class;
-mod classes;
 mod columns;
 mod creating;
 mod defaults;
-mod fault;
 mod heads;
 mod keys;
-mod kinds;
 mod names;
-mod parsing;
-mod piece;
-mod productions;
-mod reading;
-mod role;
 mod statements;
-mod terminal;
 #[cfg(test)]
 mod tests;
 mod types;
-mod words;
 
 pub use defaults::{effect, effect_joined};
-pub use fault::DdlFault;
+pub use dm_syntax::DdlFault;
 pub use heads::{Head, read_head};
 pub use names::{Named, Tables};
 pub use statements::{Statement, read_statement};

@@ -1,15 +1,12 @@
 ghost use Rattle.std.specs.Prelude.{◌≡◌, ◌<◌, ◌∷◌, ◌==◌, [], map, drop, IfOk};
 ghost use Rattle.std.specs.List.{filter};
-ghost use Rattle.dm_ddl.specs.Pieces.{begins, parts};
+ghost use Rattle.dm_syntax.specs.Pieces.{begins, parts};
 ghost use Rattle.dm_ddl.specs.Names.{unquoted, name_of, folded_name, folded_with, all_folded_with, name_with, table_in, is_table_part, tables_in, first_table};
 
-use crate::kinds::bytes_of;
-use crate::piece::{Piece, first_with, has_role, next_part};
-use crate::role;
-use crate::words::in_lower_case;
 use dm_grammar::Role;
 use dm_lex::{Token, TokenKind};
 use dm_list::Sequence;
+use dm_syntax::{Piece, bytes_of, first_with, has_role, in_lower_case, next_part, role};
 use dm_value::Name;
 use std::alloc::{AllocError, Global};
 

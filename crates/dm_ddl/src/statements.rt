@@ -1,20 +1,17 @@
 ghost use Rattle.std.specs.Prelude.{◌≡◌, ◌<◌, ◌^◌, Ok, None, length, IfOk, IsTrue};
 ghost use Rattle.dm_list.specs.Answer.{Answers};
 ghost use Rattle.dm_ddl.specs.declared.statements.Statement.{Statement};
-ghost use Rattle.dm_ddl.specs.declared.parsing.Extent.TheVariants as extent;
+ghost use Rattle.dm_syntax.specs.declared.parsing.Extent.TheVariants as extent;
 ghost use Rattle.dm_ddl.specs.Bounds.{items_of, first_excess};
-ghost use Rattle.dm_ddl.specs.Parsing.{is_memory, OrMemory, Says};
+ghost use Rattle.dm_syntax.specs.Parsing.{is_memory, OrMemory, Says};
 ghost use Rattle.dm_ddl.specs.Statements.{are_changes, alters, alter_of, statement_of, statement_unless};
 
 use crate::altering::changes_in;
 use crate::bounds::first_excess;
 use crate::creating::{has_unfit, schema_in};
-use crate::fault::DdlFault;
 use crate::names::{Named, first_table};
-use crate::parsing::{Extent, parse};
-use crate::piece::{Piece, has_role};
-use crate::role;
 use dm_schema::{Changes, Schema, SchemaFault};
+use dm_syntax::{DdlFault, Extent, Piece, has_role, parse, role};
 use std::alloc::Global;
 
 /// What a statement says of a table's schema.

@@ -1,14 +1,13 @@
 ghost use Rattle.std.specs.Prelude.{◌≡◌, ◌≤◌, None, IsTrue};
 ghost use Rattle.dm_schema.specs.Kinds.{is_kind};
-ghost use Rattle.dm_ddl.specs.declared.role.TheConstants as role;
+ghost use Rattle.dm_syntax.specs.declared.role.TheConstants as role;
 ghost use Rattle.dm_ddl.specs.Bounds.{number_or, excess_in};
 ghost use Rattle.dm_ddl.specs.Types.{type_word, integer_kind, kind_of_word, kind_in};
 
 use crate::bounds::number_or;
-use crate::piece::{Piece, first_with, has_role};
-use crate::{role, terminal};
 use dm_grammar::Kind as Terminal;
 use dm_schema::Kind;
+use dm_syntax::{Piece, first_with, has_role, role, terminal};
 
 /// The kind of the column that an item defines, whose numbers are in range.
 pub fn kind_in(text: &[u8], item: &[Piece]) -> Kind

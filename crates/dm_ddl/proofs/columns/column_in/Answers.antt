@@ -1,7 +1,7 @@
 use Rattle.std.proofs.Common.{◌∙◌, ap, unwrap_or, Option}
 use Rattle.dm_schema.specs.declared.column.DefaultRule.{DefaultRule}
 use Rattle.dm_schema.specs.declared.column.DefaultRule.TheVariants as default
-use Rattle.dm_ddl.specs.declared.role.TheConstants as role
+use Rattle.dm_syntax.specs.declared.role.TheConstants as role
 use Rattle.dm_ddl.specs.Types.{kind_in}
 use Rattle.dm_ddl.specs.Columns.{last_default, nullable_in, column_name}
 use Rattle.dm_ddl.proofs.Formed.{with_folded, rule_formed, column_formed}

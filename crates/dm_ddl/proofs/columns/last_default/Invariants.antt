@@ -1,8 +1,8 @@
 use Rattle.std.proofs.Common.{◌≡◌, ◌∷◌, [], fold, length, Some, List, Option}
 use Rattle.std.specs.Option.{option_map}
-use Rattle.dm_ddl.specs.declared.piece.Piece.{Piece}
-use Rattle.dm_ddl.specs.declared.role.TheConstants as role
-use Rattle.dm_ddl.specs.Pieces.{begins, parts}
+use Rattle.dm_syntax.specs.declared.piece.Piece.{Piece}
+use Rattle.dm_syntax.specs.declared.role.TheConstants as role
+use Rattle.dm_syntax.specs.Pieces.{begins, parts}
 use Rattle.dm_ddl.specs.Columns.{last_default}
 use Rattle.dm_ddl.proofs.columns.last_default.Given as goal
 

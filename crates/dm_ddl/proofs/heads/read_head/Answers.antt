@@ -1,9 +1,9 @@
 use Rattle.std.proofs.Common.{◌∙◌, ◌≡◌, Result, Ok, sym, ap}
-use Rattle.dm_ddl.specs.declared.fault.DdlFault.{DdlFault}
+use Rattle.dm_syntax.specs.declared.fault.DdlFault.{DdlFault}
 use Rattle.dm_ddl.specs.declared.heads.Head.{Head}
-use Rattle.dm_ddl.specs.declared.parsing.Extent.TheVariants as extent
+use Rattle.dm_syntax.specs.declared.parsing.Extent.TheVariants as extent
 use Rattle.dm_ddl.specs.Heads.{head_of, head_unless}
-use Rattle.dm_ddl.proofs.Answering.{only_answer}
+use Rattle.dm_syntax.proofs.Answering.{only_answer}
 use Rattle.dm_ddl.proofs.heads.read_head.Goals as goal
 
 pub returns-clause-each : goal.returns-clause-each

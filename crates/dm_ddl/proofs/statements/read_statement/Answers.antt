@@ -1,12 +1,12 @@
 use Rattle.std.proofs.Common.{◌≡◌, ◌∙◌, sym, ap, subst, List, Result, Ok}
 use Rattle.dm_list.specs.Answer.{Answers}
-use Rattle.dm_ddl.specs.declared.fault.DdlFault.{DdlFault}
-use Rattle.dm_ddl.specs.declared.parsing.Extent.TheVariants as extent
-use Rattle.dm_ddl.specs.declared.piece.Piece.{Piece}
+use Rattle.dm_syntax.specs.declared.fault.DdlFault.{DdlFault}
+use Rattle.dm_syntax.specs.declared.parsing.Extent.TheVariants as extent
+use Rattle.dm_syntax.specs.declared.piece.Piece.{Piece}
 use Rattle.dm_ddl.specs.declared.statements.Statement.{Statement}
-use Rattle.dm_ddl.specs.Parsing.{is_memory}
+use Rattle.dm_syntax.specs.Parsing.{is_memory}
 use Rattle.dm_ddl.specs.Statements.{statement_unless}
-use Rattle.dm_ddl.proofs.Answering.{only_answer, says_as}
+use Rattle.dm_syntax.proofs.Answering.{only_answer, says_as}
 use Rattle.dm_ddl.proofs.StatementLemmas.{statement_strict, statement_formed}
 use Rattle.dm_ddl.proofs.statements.read_statement.Goals as goal
 

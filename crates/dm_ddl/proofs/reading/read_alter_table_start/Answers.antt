@@ -1,5 +1,0 @@
-use Rattle.dm_ddl.proofs.Ready.{alter_table_start_ready}
-use Rattle.dm_ddl.proofs.reading.read_alter_table_start.Goals as goal
-
-pub read-requires-clause-ready : goal.read-requires-clause-ready
-read-requires-clause-ready c = alter_table_start_ready

@@ -1,5 +1,0 @@
-use Rattle.dm_ddl.proofs.Ready.{create_table_start_ready}
-use Rattle.dm_ddl.proofs.reading.read_create_table_start.Goals as goal
-
-pub read-requires-clause-ready : goal.read-requires-clause-ready
-read-requires-clause-ready c = create_table_start_ready

@@ -1,5 +1,0 @@
-use Rattle.dm_ddl.proofs.Ready.{other_statement_ready}
-use Rattle.dm_ddl.proofs.reading.read_other.Goals as goal
-
-pub read-requires-clause-ready : goal.read-requires-clause-ready
-read-requires-clause-ready c = other_statement_ready

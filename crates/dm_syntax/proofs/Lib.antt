@@ -1,0 +1,4 @@
+pub mod Answering
+pub mod PartsLemmas
+pub mod Ready
+pub mod Terminals

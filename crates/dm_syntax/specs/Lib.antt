@@ -1,0 +1,5 @@
+pub mod Classes
+pub mod Parsing
+pub mod Pieces
+pub mod Productions
+pub mod Words
