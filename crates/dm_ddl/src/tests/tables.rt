@@ -147,6 +147,7 @@ CREATE TABLE t (id INT KEY, `primary` INT UNIQUE KEY) => create t: id Signed(4) 
 CREATE TABLE t (id INT, CONSTRAINT Pk PRIMARY KEY (id), CONSTRAINT U1 UNIQUE (id), CONSTRAINT u UNIQUE KEY u2 (id), CONSTRAINT UNIQUE (id)) => create t: id Signed(4) NOT NULL, primary (id), unique u1 (id), unique u2 (id), unique id (id)
 CREATE TABLE t (id INT, CONSTRAINT PRIMARY KEY (id), CONSTRAINT c CHECK (id > (1+2)), CHECK (id in (1,2)) NOT ENFORCED) => create t: id Signed(4) NOT NULL, primary (id)
 CREATE TABLE t (id INT KEY, KEY k (id(3)), INDEX (id), FULLTEXT KEY f (id), SPATIAL INDEX s (id)) => create t: id Signed(4) NOT NULL, primary (id)
+CREATE TABLE t (id INT KEY, KEY k (id, id), UNIQUE (id)) => create t: id Signed(4) NOT NULL, primary (id), unique id (id)
 CREATE TABLE t (id INT KEY, CONSTRAINT c FOREIGN KEY (id) REFERENCES u (id)) => Unsupported 41
 CREATE TABLE t (id INT KEY, FOREIGN KEY (id) REFERENCES u (id)) => Unsupported 28
 CREATE TABLE t (id INT KEY, CONSTRAINT c INDEX (id)) => Syntax 41
@@ -186,6 +187,9 @@ CREATE TABLE t (id INT KEY -- ) => Syntax 31
 CREATE TABLE t (id INT KEY --1) => Syntax 27
 CREATE TABLE t (id INT KEY) -- => create t: id Signed(4) NOT NULL, primary (id)
 SELECT 'x => Lex 7
+CREATE TABLE t (id INT KEY) COMMENT='AS SELECT' => create t: id Signed(4) NOT NULL, primary (id)
+CREATE TABLE a.b.c (id INT KEY) => Syntax 16
+ => Other
 ";
 
 /// Changes of tables.
@@ -260,6 +264,12 @@ ALTER TABLE t ADD c CHAR(256), FOO => Unsupported 25
 ALTER TABLE IF EXISTS t ADD c INT => Unsupported 15
 DROP INDEX IF EXISTS k ON t => Syntax 14
 ALTER VIEW v AS SELECT 1 => Other
+ALTER TABLE t /*!80000 ADD c INT */ => Syntax 35
+CREATE INDEX IF NOT EXISTS i ON t (a) => Syntax 16
+ALTER TABLE t MODIFY v => Syntax 22
+ALTER TABLE t CHANGE v  => Syntax 23
+ALTER TABLE t ADD CONSTRAINT UNIQUE (a), ADD UNIQUE INDEX USING BTREE (a) => t: nameless unique  (a); nameless unique  (a)
+CREATE UNIQUE INDEX `a``B` ON t (`C``d`) => t: unique a`b (c`d)
 ";
 
 /// Heads of statements.
@@ -315,6 +325,8 @@ BEGIN => no table
 /* CREATE TABLE t */ => no table
  => no table
 (SELECT 1) => no table
+CREATE INDEX IF NOT EXISTS i ON t (a) => Syntax 16
+ALTER TABLE t /* x */ FOO 'x => Lex 26
 ";
 
 /// Texts of SHOW CREATE TABLE by MySQL 5.7, MySQL 8.0 and MariaDB, and one with comments, with semicolons between them.
