@@ -32,6 +32,15 @@ ALTER TABLE t ADD c `int` => Syntax 20
 ALTER TABLE t ADD c INT(-1) => Syntax 24
 ALTER TABLE t ADD c CHAR(5 => Syntax 26
 ALTER TABLE t ADD c CHAR(256 => Unsupported 25
+ALTER TABLE t ADD c VARCHAR(0000000000000000000000009) => t: add c Varchar(9) NULL last
+ALTER TABLE t ADD c INT(5,2) => Syntax 25
+ALTER TABLE t ADD c BOOL(1) => Syntax 24
+ALTER TABLE t ADD c DECIMAL(5,2) SIGNED => Syntax 33
+ALTER TABLE t ADD c CHARACTER VARYING(5) => Unsupported 20
+ALTER TABLE t ADD c NOT NULL => Unsupported 20
+ALTER TABLE t ADD c  => Syntax 20
+ALTER TABLE t ADD (a DECIMAL(5,5), b DECIMAL(3,4)) => Unsupported 47
+ALTER TABLE ä ADD c FLOAT => Unsupported 21
 ALTER TABLE t ADD c INT NOT NULL => t: add c Signed(4) NOT NULL last
 ALTER TABLE t ADD c INT NULL DEFAULT NULL => t: add c Signed(4) NULL last
 ALTER TABLE t ADD c INT NULL NOT NULL NULL => t: add c Signed(4) NOT NULL last
@@ -51,6 +60,10 @@ ALTER TABLE t ADD c YEAR DEFAULT 2024 => t: add c Year NULL DEFAULT 2024 last
 ALTER TABLE t ADD c DATE DEFAULT '2024-02-29' => t: add c Date NULL DEFAULT 2024-2-29 last
 ALTER TABLE t ADD c DATETIME(3) DEFAULT '2024-02-29 01:02:03.5' => t: add c Datetime(3) NULL DEFAULT 2024-2-29 1:2:3 500000 last
 ALTER TABLE t ADD c TIMESTAMP DEFAULT '2024-01-01 00:00:00' => t: add c Timestamp(0) NULL DEFAULT 1704067200 0 last
+ALTER TABLE t ADD c TIMESTAMP NOT NULL DEFAULT '0000-00-00 00:00:00' => t: add c Timestamp(0) NOT NULL DEFAULT 0 0 last
+ALTER TABLE t ADD c DATE NOT NULL DEFAULT '0000-00-00' => t: add c Date NOT NULL DEFAULT 0-0-0 last
+ALTER TABLE t ADD c VARCHAR(9) DEFAULT 'it\\'s 5\\%' => t: add c Varchar(9) NULL DEFAULT <it's 5\\%> last
+ALTER TABLE Tä ADD ÄB VARCHAR(1) DEFAULT 'ä' => Tä: add Äb Varchar(1) NULL DEFAULT <ä> last
 ALTER TABLE t ADD (a DATETIME DEFAULT CURRENT_TIMESTAMP, b DATETIME(6) DEFAULT now(6) ON UPDATE NOW(), c TIMESTAMP DEFAULT LOCALTIME(), d INT DEFAULT LOCALTIMESTAMP, e DATETIME ON UPDATE CURRENT_TIMESTAMP(6)) => t: add a Datetime(0) NULL DEFAULT now last; add b Datetime(6) NULL DEFAULT now last; add c Timestamp(0) NULL DEFAULT now last; add d Signed(4) NULL DEFAULT now last; add e Datetime(0) NULL last
 ALTER TABLE t ADD c DATETIME DEFAULT NOW(7) => Unsupported 41
 ALTER TABLE t ADD c DATETIME ON UPDATE NOW(7) => Unsupported 43
@@ -62,10 +75,13 @@ ALTER TABLE t ADD c INT DEFAULT b'1' => Syntax 32
 ALTER TABLE t ADD c DATE DEFAULT DATE '2024-01-01' => Syntax 33
 ALTER TABLE t ADD c TEXT DEFAULT _utf8 x'41' => Syntax 39
 ALTER TABLE t ADD c TEXT DEFAULT _latin1 'x' => Syntax 33
+ALTER TABLE t ADD c TEXT DEFAULT 0x => Syntax 34
+ALTER TABLE t ADD c INT DEFAULT -0x41 => Syntax 33
 ALTER TABLE t ADD c INT AUTO_INCREMENT => t: refused NoFill
 ALTER TABLE t ADD c INT AUTO_INCREMENT PRIMARY KEY => t: refused PrimaryChange
 ALTER TABLE t ADD c INT KEY => t: refused PrimaryChange
 ALTER TABLE t ADD c INT UNIQUE => t: add c Signed(4) NULL last; nameless unique  (c)
+ALTER TABLE t ADD c INT UNIQUE UNIQUE => t: add c Signed(4) NULL last; nameless unique  (c)
 ALTER TABLE t ADD c INT UNIQUE KEY NOT NULL => t: add c Signed(4) NOT NULL last; nameless unique  (c)
 ALTER TABLE t ADD c INT UNIQUE NOT NULL KEY => t: refused PrimaryChange
 ALTER TABLE t ADD c VARCHAR(9) COMMENT 'a, b' COLLATE utf8mb4_bin CHARACTER SET UTF8 CHARSET ascii COLUMN_FORMAT DYNAMIC STORAGE DISK VISIBLE INVISIBLE => t: add c Varchar(9) NULL last
@@ -78,33 +94,17 @@ ALTER TABLE t ADD c INT GENERATED ALWAYS AS (1) => Unsupported 24
 ALTER TABLE t ADD c INT AS (1) => Unsupported 24
 ALTER TABLE t ADD c INT REFERENCES u (id) => Unsupported 24
 ALTER TABLE t ADD c INT CHECK (c > 0) => Syntax 24
+ALTER TABLE t ADD c LONGTEXT CHARACTER SET utf8mb4 CHECK (json_valid(c)) => Syntax 51
 ALTER TABLE t ADD c INT AUTOINCREMENT => Syntax 24
 ALTER TABLE t ADD c TINYINT DEFAULT 128 => Made DefaultUnfit
 ALTER TABLE t ADD c CHAR(1) DEFAULT 'ab' => Made DefaultUnfit
 ALTER TABLE t ADD c INT NOT NULL DEFAULT NULL => Made DefaultUnfit
-ALTER TABLE t ADD c CHARACTER VARYING(5) => Unsupported 20
-ALTER TABLE t ADD c NOT NULL => Unsupported 20
-ALTER TABLE t ADD c  => Syntax 20
-ALTER TABLE t ADD c BOOL(1) => Syntax 24
-ALTER TABLE t ADD c DECIMAL(5,2) SIGNED => Syntax 33
-ALTER TABLE t ADD c INT(5,2) => Syntax 25
-ALTER TABLE t ADD c TEXT DEFAULT 0x => Syntax 34
-ALTER TABLE t ADD c INT DEFAULT -0x41 => Syntax 33
 ALTER TABLE t ADD c INT DEFAULT 1.5 => Made DefaultUnfit
 ALTER TABLE t ADD c INT DEFAULT 0x05 => Made DefaultUnfit
 ALTER TABLE t ADD c YEAR DEFAULT 99 => Made DefaultUnfit
-ALTER TABLE t ADD (a DECIMAL(5,5), b DECIMAL(3,4)) => Unsupported 47
-ALTER TABLE Tä ADD ÄB VARCHAR(1) DEFAULT 'ä' => Tä: add Äb Varchar(1) NULL DEFAULT <ä> last
-ALTER TABLE ä ADD c FLOAT => Unsupported 21
-ALTER TABLE t ADD c TIMESTAMP NOT NULL DEFAULT '0000-00-00 00:00:00' => t: add c Timestamp(0) NOT NULL DEFAULT 0 0 last
-ALTER TABLE t ADD c DATE NOT NULL DEFAULT '0000-00-00' => t: add c Date NOT NULL DEFAULT 0-0-0 last
-ALTER TABLE t ADD c VARCHAR(9) DEFAULT 'it\\'s 5\\%' => t: add c Varchar(9) NULL DEFAULT <it's 5\\%> last
-ALTER TABLE t ADD c INT UNIQUE UNIQUE => t: add c Signed(4) NULL last; nameless unique  (c)
-ALTER TABLE t ADD c VARCHAR(0000000000000000000000009) => t: add c Varchar(9) NULL last
 ALTER TABLE t ADD c VARCHAR(9) DEFAULT 5 => Made DefaultUnfit
 ALTER TABLE t ADD c DATETIME DEFAULT '2024-01-01' => Made DefaultUnfit
 ALTER TABLE t ADD c TIMESTAMP DEFAULT '1970-01-01 00:00:00' => Made DefaultUnfit
-ALTER TABLE t ADD c LONGTEXT CHARACTER SET utf8mb4 CHECK (json_valid(c)) => Syntax 51
 ";
 
 /// Tables that are created: their names, keys, options and comments.
@@ -115,17 +115,27 @@ CREATE TABLE IF (id INT KEY) => create IF: id Signed(4) NOT NULL, primary (id)
 CREATE TABLE If . exists (id INT KEY) => create If.exists: id Signed(4) NOT NULL, primary (id)
 CREATE TABLE IF NOT EXISTS IF (id INT KEY) => create new IF: id Signed(4) NOT NULL, primary (id)
 CREATE TABLE IF NOT t (id INT KEY) => Syntax 20
+CREATE TABLE t NOT x => Syntax 15
 CREATE TABLE `a``b`.`C.d` (`x``Y` INT KEY) => create a`b.C.d: x`y Signed(4) NOT NULL, primary (x`y)
+CREATE TABLE `` (`` INT KEY) => create :  Signed(4) NOT NULL, primary ()
 CREATE TABLE t (`primary` INT KEY, `Check` INT, date DATE, text TEXT, on INT) => create t: primary Signed(4) NOT NULL, check Signed(4) NULL, date Date NULL, text Text(2) NULL, on Signed(4) NULL, primary (primary)
 CREATE TABLE t (id INT KEY, CHECK INT) => create t: id Signed(4) NOT NULL, primary (id)
 CREATE TABLE t (a INT, b INT, PRIMARY KEY USING BTREE (b DESC, A ASC) USING HASH) => create t: a Signed(4) NOT NULL, b Signed(4) NOT NULL, primary (b,a)
 CREATE TABLE t (id INT NULL AUTO_INCREMENT, PRIMARY KEY (id)) => create t: id Signed(4) NOT NULL, primary (id)
 CREATE TABLE t (id INT NULL PRIMARY KEY) => Made NullablePrimary
+CREATE TABLE t (id INT NULL KEY, UNIQUE (w)) => Made UnknownColumn
+CREATE TABLE t (id TINYINT NULL DEFAULT 300 KEY) => Made NullablePrimary
 CREATE TABLE t (id INT) => Made NoPrimary
+CREATE TABLE t (id INT, ID INT) => Made Duplicate
+CREATE TABLE t (id INT, UNIQUE (w)) => Made NoPrimary
 CREATE TABLE t (id TINYINT DEFAULT 300) => Made NoPrimary
 CREATE TABLE t (id TINYINT DEFAULT 300 KEY) => Made DefaultUnfit
 CREATE TABLE t (id INT KEY DEFAULT NULL) => Made DefaultUnfit
 CREATE TABLE t (id INT KEY, v INT, PRIMARY KEY (v)) => Made Duplicate
+CREATE TABLE t (id INT KEY, v INT KEY) => Made Duplicate
+CREATE TABLE t (id INT KEY PRIMARY KEY) => create t: id Signed(4) NOT NULL, primary (id)
+CREATE TABLE t (id INT, PRIMARY KEY (id), PRIMARY KEY (id), UNIQUE (id), UNIQUE (id), UNIQUE (id), UNIQUE (id), UNIQUE (id), UNIQUE (id), UNIQUE (id), UNIQUE (id), UNIQUE (id), UNIQUE (id), UNIQUE (id), UNIQUE (id), UNIQUE (id), UNIQUE (id), UNIQUE (id), UNIQUE (id), UNIQUE (id)) => Made TooMany
+CREATE TABLE t (id INT, PRIMARY KEY pk (id)) => Syntax 36
 CREATE TABLE t (id INT KEY, ID INT) => Made Duplicate
 CREATE TABLE t (id INT KEY, UNIQUE k (id, ID)) => Made Duplicate
 CREATE TABLE t (id INT KEY, UNIQUE (id), UNIQUE Id (id)) => Made Duplicate
@@ -137,6 +147,7 @@ CREATE TABLE t (id INT KEY, `primary` INT UNIQUE KEY) => create t: id Signed(4) 
 CREATE TABLE t (id INT, CONSTRAINT Pk PRIMARY KEY (id), CONSTRAINT U1 UNIQUE (id), CONSTRAINT u UNIQUE KEY u2 (id), CONSTRAINT UNIQUE (id)) => create t: id Signed(4) NOT NULL, primary (id), unique u1 (id), unique u2 (id), unique id (id)
 CREATE TABLE t (id INT, CONSTRAINT PRIMARY KEY (id), CONSTRAINT c CHECK (id > (1+2)), CHECK (id in (1,2)) NOT ENFORCED) => create t: id Signed(4) NOT NULL, primary (id)
 CREATE TABLE t (id INT KEY, KEY k (id(3)), INDEX (id), FULLTEXT KEY f (id), SPATIAL INDEX s (id)) => create t: id Signed(4) NOT NULL, primary (id)
+CREATE TABLE t (id INT KEY, KEY k (id, id), UNIQUE (id)) => create t: id Signed(4) NOT NULL, primary (id), unique id (id)
 CREATE TABLE t (id INT KEY, CONSTRAINT c FOREIGN KEY (id) REFERENCES u (id)) => Unsupported 41
 CREATE TABLE t (id INT KEY, FOREIGN KEY (id) REFERENCES u (id)) => Unsupported 28
 CREATE TABLE t (id INT KEY, CONSTRAINT c INDEX (id)) => Syntax 41
@@ -144,12 +155,14 @@ CREATE TABLE t (v TEXT, PRIMARY KEY (v(3))) => Unsupported 38
 CREATE TABLE t (v TEXT, UNIQUE k (v, (v+1))) => Unsupported 37
 CREATE TABLE t (id INT KEY, UNIQUE KEY k (id) COMMENT 'x') => Syntax 46
 CREATE TABLE t (id INT KEY) ENGINE=InnoDB DEFAULT CHARSET = utf8mb4 COLLATE=utf8mb4_bin, COMMENT 'a;b' CHARACTER SET ascii => create t: id Signed(4) NOT NULL, primary (id)
+CREATE TABLE t (id INT KEY) ) x => create t: id Signed(4) NOT NULL, primary (id)
 CREATE TABLE t (id INT KEY) CHARSET=latin1 => Unsupported 36
 CREATE TABLE t (id INT KEY) CHARSET='utf8' => Syntax 36
 CREATE TABLE t (id INT KEY) ENGINE=InnoDB PARTITION BY HASH (id) => Unsupported 42
 CREATE TABLE t (id INT KEY) AS SELECT 1 => Unsupported 28
 CREATE TABLE t (id INT KEY) ENGINE=InnoDB SELECT 1 => Unsupported 42
 CREATE TABLE t LIKE u => Unsupported 15
+CREATE TABLE IF NOT EXISTS d.t LIKE u => Unsupported 31
 CREATE TABLE t (LIKE u) => Unsupported 16
 CREATE TABLE t SELECT 1 => Unsupported 15
 CREATE TABLE t ENGINE=InnoDB SELECT 1 => Syntax 15
@@ -172,29 +185,25 @@ CREATE TABLE t (`id INT KEY) => Lex 16
 /* a */ CREATE /*!40101 x */ TABLE t(id INT KEY)# ' => create t: id Signed(4) NOT NULL, primary (id)
 CREATE TABLE t (id INT KEY -- ) => Syntax 31
 CREATE TABLE t (id INT KEY --1) => Syntax 27
-CREATE TABLE `` (`` INT KEY) => create :  Signed(4) NOT NULL, primary ()
-CREATE TABLE t (id INT, PRIMARY KEY pk (id)) => Syntax 36
-CREATE TABLE t (id INT, PRIMARY KEY (id), PRIMARY KEY (id), UNIQUE (id), UNIQUE (id), UNIQUE (id), UNIQUE (id), UNIQUE (id), UNIQUE (id), UNIQUE (id), UNIQUE (id), UNIQUE (id), UNIQUE (id), UNIQUE (id), UNIQUE (id), UNIQUE (id), UNIQUE (id), UNIQUE (id), UNIQUE (id), UNIQUE (id)) => Made TooMany
-CREATE TABLE t (id INT, ID INT) => Made Duplicate
-CREATE TABLE t (id INT, UNIQUE (w)) => Made NoPrimary
-CREATE TABLE t (id INT NULL KEY, UNIQUE (w)) => Made UnknownColumn
-CREATE TABLE t (id TINYINT NULL DEFAULT 300 KEY) => Made NullablePrimary
-CREATE TABLE IF NOT EXISTS d.t LIKE u => Unsupported 31
 CREATE TABLE t (id INT KEY) -- => create t: id Signed(4) NOT NULL, primary (id)
 SELECT 'x => Lex 7
-CREATE TABLE t NOT x => Syntax 15
-CREATE TABLE t (id INT KEY PRIMARY KEY) => create t: id Signed(4) NOT NULL, primary (id)
-CREATE TABLE t (id INT KEY, v INT KEY) => Made Duplicate
-CREATE TABLE t (id INT KEY) ) x => create t: id Signed(4) NOT NULL, primary (id)
+CREATE TABLE t (id INT KEY) COMMENT='AS SELECT' => create t: id Signed(4) NOT NULL, primary (id)
+CREATE TABLE a.b.c (id INT KEY) => Syntax 16
+ => Other
 ";
 
 /// Changes of tables.
 pub const CHANGES: &str = "\
 alter table D.T add column A int first, add B int after A, add (c int, d int) => D.T: add a Signed(4) NULL first; add b Signed(4) NULL after a; add c Signed(4) NULL last; add d Signed(4) NULL last
 ALTER TABLE t ADD COLUMN (c INT FIRST) => Syntax 32
+ALTER TABLE t ADD c INT FIRST NOT NULL => Syntax 30
+ALTER TABLE t ADD (a INT KEY, b INT AUTO_INCREMENT) => t: refused PrimaryChange; refused NoFill
+ALTER TABLE t ADD COLUMN IF NOT EXISTS c INT => Unsupported 28
 ALTER TABLE t ADD c INT, d INT => Unsupported 25
 ALTER TABLE t MODIFY v BIGINT NOT NULL => t: modify v Signed(8) NOT NULL keep
 ALTER TABLE t MODIFY COLUMN v BIGINT UNSIGNED NULL FIRST => t: modify with NULL v Unsigned(8) NULL first
+ALTER TABLE t MODIFY v INT NULL NOT NULL => t: modify with NULL v Signed(4) NOT NULL keep
+ALTER TABLE t MODIFY v INT DEFAULT NULL => t: modify v Signed(4) NULL keep
 ALTER TABLE t MODIFY v INT AFTER `W` => t: modify v Signed(4) NULL after w
 ALTER TABLE t MODIFY id INT NULL AUTO_INCREMENT => t: modify id Signed(4) NOT NULL keep
 ALTER TABLE t MODIFY v INT UNIQUE => t: modify v Signed(4) NULL keep; nameless unique  (v)
@@ -203,6 +212,8 @@ ALTER TABLE t CHANGE v V SMALLINT AFTER id => t: modify v Signed(2) NULL after i
 ALTER TABLE t CHANGE COLUMN v w INT => t: refused Renames
 ALTER TABLE t CHANGE v w INT KEY => t: refused Renames
 ALTER TABLE t DROP v, DROP COLUMN W, DROP INDEX K, DROP KEY l => t: drop v; drop w; drop key k; drop key l
+ALTER TABLE t DROP a,  => Syntax 22
+ALTER TABLE t DROP COLUMN IF EXISTS c => Syntax 29
 ALTER TABLE t DROP PRIMARY KEY => t: refused PrimaryChange
 ALTER TABLE t DROP INDEX `PRIMARY` => t: refused PrimaryChange
 ALTER TABLE t DROP KEY primary => t: refused PrimaryChange
@@ -217,6 +228,7 @@ ALTER TABLE t ALTER v SET VISIBLE => Syntax 26
 ALTER TABLE t ALTER INDEX k VISIBLE => Syntax 20
 ALTER TABLE t ADD UNIQUE K (a, B DESC), ADD UNIQUE (a), ADD CONSTRAINT c UNIQUE INDEX (a) => t: unique k (a,b); nameless unique  (a); unique c (a)
 ALTER TABLE t ADD KEY i (v), ADD INDEX (v(5)), ADD FULLTEXT f (v) => t: no effect; no effect; no effect
+ALTER TABLE t ADD KEY i (v)) => Syntax 27
 ALTER TABLE t ADD PRIMARY KEY (a), ADD CONSTRAINT p PRIMARY KEY (a) => t: refused PrimaryChange; refused PrimaryChange
 ALTER TABLE t ADD CHECK (a > 0) => Unsupported 18
 ALTER TABLE t ADD CONSTRAINT c CHECK (a > 0) => Unsupported 31
@@ -228,6 +240,7 @@ ALTER TABLE t RENAME COLUMN a TO b, RENAME TO u, RENAME d.u, RENAME KEY K TO l, 
 ALTER TABLE t RENAME AS u => Unsupported 21
 ALTER TABLE t ENGINE=InnoDB, COMMENT 'x', AUTO_INCREMENT = 5, ALGORITHM=INPLACE, LOCK NONE, FORCE => t: no effect; no effect; no effect; no effect; no effect; no effect
 ALTER TABLE t ENGINE=InnoDB COMMENT='x' => Syntax 28
+ALTER TABLE t AUTO_INCREMENT=-5 => Syntax 29
 ALTER TABLE t ROW_FORMAT=DYNAMIC => Unsupported 14
 ALTER TABLE t CONVERT TO CHARACTER SET utf8 => Unsupported 14
 ALTER TABLE t FORCE, DEFAULT CHARSET utf8 => Unsupported 21
@@ -242,24 +255,21 @@ CREATE UNIQUE INDEX k ON t (a) LOCK=NONE => Syntax 31
 DROP INDEX K ON d.t => d.t: drop key k
 DROP INDEX `PRIMARY` ON t => t: refused PrimaryChange
 DROP INDEX k ON t LOCK=NONE => Syntax 18
-ALTER TABLE t MODIFY v INT NULL NOT NULL => t: modify with NULL v Signed(4) NOT NULL keep
-ALTER TABLE t MODIFY v INT DEFAULT NULL => t: modify v Signed(4) NULL keep
-ALTER TABLE t ADD c INT FIRST NOT NULL => Syntax 30
 ALTER TABLE t ADD c TINYINT DEFAULT 300, FOO => Unsupported 41
 ALTER TABLE t RENAME u, ADD c TINYINT DEFAULT 300 => Made DefaultUnfit
 ALTER TABLE t CHANGE a b TINYINT DEFAULT 300 => Made DefaultUnfit
 ALTER TABLE t MODIFY id INT AUTO_INCREMENT DEFAULT NULL => Made DefaultUnfit
-ALTER TABLE t AUTO_INCREMENT=-5 => Syntax 29
-ALTER TABLE t ADD KEY i (v)) => Syntax 27
 ALTER TABLE t DROP CHECK c, ADD d FLOAT => Syntax 19
 ALTER TABLE t ADD c CHAR(256), FOO => Unsupported 25
 ALTER TABLE IF EXISTS t ADD c INT => Unsupported 15
-ALTER TABLE t ADD COLUMN IF NOT EXISTS c INT => Unsupported 28
-ALTER TABLE t DROP COLUMN IF EXISTS c => Syntax 29
 DROP INDEX IF EXISTS k ON t => Syntax 14
 ALTER VIEW v AS SELECT 1 => Other
-ALTER TABLE t ADD (a INT KEY, b INT AUTO_INCREMENT) => t: refused PrimaryChange; refused NoFill
-ALTER TABLE t DROP a,  => Syntax 22
+ALTER TABLE t /*!80000 ADD c INT */ => Syntax 35
+CREATE INDEX IF NOT EXISTS i ON t (a) => Syntax 16
+ALTER TABLE t MODIFY v => Syntax 22
+ALTER TABLE t CHANGE v  => Syntax 23
+ALTER TABLE t ADD CONSTRAINT UNIQUE (a), ADD UNIQUE INDEX USING BTREE (a) => t: nameless unique  (a); nameless unique  (a)
+CREATE UNIQUE INDEX `a``B` ON t (`C``d`) => t: unique a`b (c`d)
 ";
 
 /// Heads of statements.
@@ -267,6 +277,8 @@ pub const HEADS: &str = "\
 CREATE TABLE t (id FLOAT, ; => create t
 create table if not exists `A``b`.C LIKE u => create new A`b.C
 CREATE TABLE IF (id INT) => create IF
+CREATE TABLE IF EXISTS t (a INT) => create IF
+CREATE TABLE t => create t
 CREATE TABLE IF NOT t (id INT) => Syntax 20
 CREATE TABLE 2024_log (id INT) => Syntax 13
 CREATE TABLE d. => Syntax 15
@@ -274,8 +286,10 @@ CREATE TABLE t (v TEXT DEFAULT 'x) => Lex 31
 CREATE TEMPORARY TABLE t (id INT) => no table
 CREATE OR REPLACE TABLE t (id INT) => no table
 ALTER TABLE D.t FOO ) BAR => alter D.t
+ALTER TABLE IF EXISTS t ADD c INT => alter IF
 ALTER VIEW v AS SELECT 1 => no table
 CREATE INDEX i ON t (a) => create index t
+CREATE INDEX i ON t => create index t
 CREATE UNIQUE INDEX k USING BTREE ON d.t FOO => create index d.t
 CREATE FULLTEXT INDEX f ON t (a) => create index t
 CREATE SPATIAL INDEX s USING HASH ON t (a) => create index t
@@ -285,6 +299,9 @@ DROP INDEX k t => Syntax 13
 DROP TABLE a, d.B CASCADE => drop a d.B
 DROP TABLE IF EXISTS a, IF => drop a IF
 DROP TABLE IF, b => drop IF b
+DROP TABLE IF => drop IF
+DROP TABLE if.a, IF.EXISTS => drop if.a IF.EXISTS
+DROP TABLE IF NOT EXISTS a => drop IF
 DROP TABLE IF EXISTS  => Syntax 21
 DROP TABLE a, => Syntax 13
 DROP TEMPORARY TABLE a => no table
@@ -292,6 +309,7 @@ DROP TABLES a => no table
 DROP VIEW v => no table
 TRUNCATE T => truncate T
 TRUNCATE TABLE d.t => truncate d.t
+TRUNCATE TABLE  => Syntax 15
 RENAME TABLE a TO d.b, c TO a => rename a d.b c a
 RENAME TABLE a b => Syntax 15
 RENAME USER a TO b => no table
@@ -305,16 +323,10 @@ WITH x AS (SELECT 1) DELETE FROM t => no table
 `CREATE` TABLE t (id INT) => no table
 BEGIN => no table
 /* CREATE TABLE t */ => no table
-CREATE TABLE t => create t
-DROP TABLE if.a, IF.EXISTS => drop if.a IF.EXISTS
-ALTER TABLE IF EXISTS t ADD c INT => alter IF
-TRUNCATE TABLE  => Syntax 15
-CREATE INDEX i ON t => create index t
  => no table
-CREATE TABLE IF EXISTS t (a INT) => create IF
-DROP TABLE IF NOT EXISTS a => drop IF
-DROP TABLE IF => drop IF
 (SELECT 1) => no table
+CREATE INDEX IF NOT EXISTS i ON t (a) => Syntax 16
+ALTER TABLE t /* x */ FOO 'x => Lex 26
 ";
 
 /// Texts of SHOW CREATE TABLE by MySQL 5.7, MySQL 8.0 and MariaDB, and one with comments, with semicolons between them.
