@@ -35,6 +35,10 @@ abbrev pub begins_other_rename : ℕ → Bool
 begins_other_rename kind =
     kind == terminal.COLUMN || kind == terminal.KEY || kind == terminal.INDEX || kind == terminal.TO || kind == terminal.AS
 
+-- What behind a name would be its second part: a point, or a number that begins with one, as in `db.2024_log`.
+abbrev pub continues_name : ℕ → Bool
+continues_name kind = kind == terminal.POINT || kind == terminal.FRACTIONAL
+
 abbrev pub is_name_in : ℕ → ℕ → Bool
 is_name_in number kind =
     if number == class.NAME then is_name kind
@@ -72,10 +76,10 @@ abbrev pub is_rest_in : ℕ → ℕ → Bool
 is_rest_in number kind =
     if number == class.ROW then begins_row_statement kind
     else if number == class.ANY then true
-    else if number == class.BEHIND_NAME then not (kind == terminal.POINT)
-    else if number == class.BEHIND_CREATED then not (kind == terminal.POINT || kind == terminal.NOT)
-    else if number == class.BEHIND_NAMES then not (kind == terminal.POINT || kind == terminal.COMMA)
-    else if number == class.BEHIND_DROPPED then not (kind == terminal.POINT || kind == terminal.COMMA || kind == terminal.EXISTS)
+    else if number == class.BEHIND_NAME then not (continues_name kind)
+    else if number == class.BEHIND_CREATED then not (continues_name kind || kind == terminal.NOT)
+    else if number == class.BEHIND_NAMES then not (continues_name kind || kind == terminal.COMMA)
+    else if number == class.BEHIND_DROPPED then not (continues_name kind || kind == terminal.COMMA || kind == terminal.EXISTS)
     else if number == class.OTHER_STATEMENT then not (is_between terminal.CREATE terminal.RENAME kind || begins_row_statement kind)
     else if number == class.NOT_CREATED then not (kind == terminal.TABLE || is_between terminal.UNIQUE terminal.FULLTEXT kind)
     else if number == class.NOT_DROPPED then not (kind == terminal.TABLE || kind == terminal.INDEX)

@@ -55,6 +55,14 @@ table_name = table_name_from class.NAME
 abbrev pub table_name_behind : Grammar → Grammar
 table_name_behind clause = Or (Seq (Word terminal.IF role.NAME_PART) (Or (Seq clause table_name) second_part)) (table_name_from class.TABLE_NAME)
 
+-- .table, and anything behind it
+abbrev pub second_and_rest : Grammar
+second_and_rest = all_of (plain terminal.POINT ∷ Word class.NAME role.NAME_SECOND ∷ anything ∷ [])
+
+-- [database.]table, where the first word is of a class, and what stands behind it, which isn't read
+abbrev pub table_name_and_rest : ℕ → Grammar
+table_name_and_rest its_class = Seq (Word its_class role.NAME_PART) (Or second_and_rest (rest_from class.BEHIND_NAME))
+
 abbrev pub exists : Grammar
 exists = Word terminal.EXISTS role.EXISTS
 
@@ -308,9 +316,12 @@ alter_table = Seq alter_table_head (separated alter_option role.FILLER)
 -- CREATE INDEX and DROP INDEX.
 
 -- INDEX index_name [index_type] ON tbl_name
+abbrev pub create_index_on : ℕ → Grammar → Grammar
+create_index_on its_role table =
+    all_of (Word terminal.INDEX its_role ∷ Word class.NAME role.KEY_NAME ∷ index_type ∷ plain terminal.ON ∷ table ∷ [])
+
 abbrev pub create_index_head : ℕ → Grammar
-create_index_head its_role =
-    all_of (Word terminal.INDEX its_role ∷ Word class.NAME role.KEY_NAME ∷ index_type ∷ plain terminal.ON ∷ table_name ∷ [])
+create_index_head its_role = create_index_on its_role table_name
 
 abbrev pub create_unique_index : Grammar
 create_unique_index = all_of (create_index_head role.UNIQUE_INDEX ∷ key_parts ∷ index_type ∷ [])
@@ -321,21 +332,32 @@ create_plain_index =
     all_of (create_index_head role.PLAIN_INDEX ∷ plain terminal.OPENING ∷ separated (Skip 0) role.FILLER ∷ plain terminal.CLOSING ∷ anything ∷ [])
 
 -- INDEX index_name ON tbl_name
+abbrev pub drop_index_on : Grammar → Grammar
+drop_index_on table = all_of (Word terminal.INDEX role.DROP_INDEX ∷ Word class.NAME role.DROPPED_KEY ∷ plain terminal.ON ∷ table ∷ [])
+
 abbrev pub drop_index : Grammar
-drop_index = all_of (Word terminal.INDEX role.DROP_INDEX ∷ Word class.NAME role.DROPPED_KEY ∷ plain terminal.ON ∷ table_name ∷ [])
+drop_index = drop_index_on table_name
 
 -- Statements that are told by their heads alone.
+
+-- , tbl_name ..
+abbrev pub more_names : Grammar
+more_names = Seq (Many (Seq (plain terminal.COMMA) table_name)) (rest_from class.BEHIND_NAMES)
 
 -- TABLE [IF EXISTS] tbl_name, ..
 abbrev pub drop_table : Grammar
 drop_table =
-    all_of (Word terminal.TABLE role.DROP_TABLE ∷ table_name_behind exists ∷ Many (Seq (plain terminal.COMMA) table_name) ∷ rest_from class.BEHIND_DROPPED ∷ [])
+    Seq (Word terminal.TABLE role.DROP_TABLE)
+    (Or (Seq (Word terminal.IF role.NAME_PART)
+    (Or (all_of (exists ∷ table_name ∷ more_names ∷ []))
+    (Seq second_part (Or (all_of (plain terminal.COMMA ∷ table_name ∷ more_names ∷ [])) (rest_from class.BEHIND_DROPPED)))))
+    (Seq (table_name_from class.TABLE_NAME) more_names))
 
 -- TRUNCATE [TABLE] tbl_name
 abbrev pub truncate_table : Grammar
 truncate_table =
-    all_of (Word terminal.TRUNCATE role.TRUNCATE
-    ∷ Or (Seq (plain terminal.TABLE) table_name) (table_name_from class.TRUNCATED) ∷ rest_from class.BEHIND_NAME ∷ [])
+    Seq (Word terminal.TRUNCATE role.TRUNCATE)
+    (Or (Seq (plain terminal.TABLE) (table_name_and_rest class.NAME)) (table_name_and_rest class.TRUNCATED))
 
 -- TABLE tbl_name TO tbl_name, ..
 abbrev pub rename_table : Grammar
@@ -396,16 +418,20 @@ statement_grammar kinds =
 -- Heads: statements of which only the names of their tables are read.
 
 abbrev pub create_table_start : Grammar
-create_table_start = Seq (plain terminal.CREATE) (Seq create_table_head (rest_from class.BEHIND_CREATED))
+create_table_start =
+    all_of (plain terminal.CREATE ∷ Word terminal.TABLE role.CREATE_TABLE
+    ∷ Or (Seq (Word terminal.IF role.NAME_PART)
+    (one_of (Seq not_exists (table_name_and_rest class.NAME) ∷ second_and_rest ∷ rest_from class.BEHIND_CREATED ∷ [])))
+    (table_name_and_rest class.TABLE_NAME) ∷ [])
 
 abbrev pub alter_table_start : Grammar
-alter_table_start = Seq (plain terminal.ALTER) (Seq alter_table_head (rest_from class.BEHIND_NAME))
+alter_table_start = all_of (plain terminal.ALTER ∷ Word terminal.TABLE role.ALTER_TABLE ∷ table_name_and_rest class.NAME ∷ [])
 
 abbrev pub other_start : Grammar
 other_start = any_other (record {
-  unique_index = Seq (create_index_head role.UNIQUE_INDEX) (rest_from class.BEHIND_NAME);
-  plain_index = Seq (create_index_head role.PLAIN_INDEX) (rest_from class.BEHIND_NAME);
-  dropped_index = Seq drop_index (rest_from class.BEHIND_NAME);
+  unique_index = create_index_on role.UNIQUE_INDEX (table_name_and_rest class.NAME);
+  plain_index = create_index_on role.PLAIN_INDEX (table_name_and_rest class.NAME);
+  dropped_index = drop_index_on (table_name_and_rest class.NAME);
 })
 
 abbrev pub head_grammar : List ℕ → Grammar

@@ -85,7 +85,7 @@ pub const BEHIND_CREATED: Class = 155;
 /// Any token that doesn't continue a list of names.
 pub const BEHIND_NAMES: Class = 156;
 
-/// The same, but for EXISTS: behind IF it is no part of a name.
+/// The same, but for EXISTS: behind IF it makes that no name.
 pub const BEHIND_DROPPED: Class = 157;
 
 /// Any token that begins none of the statements that are read.

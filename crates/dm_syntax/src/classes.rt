@@ -1,5 +1,5 @@
 ghost use Rattle.std.specs.Prelude.{◌≡◌};
-ghost use Rattle.dm_syntax.specs.Classes.{is_between, is_word, is_name, begins_definition, is_column_name, is_type, is_query_word, begins_row_statement, begins_other_rename, is_name_in, is_type_in, is_part_in, is_rest_in, in_class};
+ghost use Rattle.dm_syntax.specs.Classes.{is_between, is_word, is_name, begins_definition, is_column_name, is_type, is_query_word, begins_row_statement, begins_other_rename, continues_name, is_name_in, is_type_in, is_part_in, is_rest_in, in_class};
 
 use crate::{class, terminal};
 use dm_grammar::{Class, Classes, Kind};
@@ -84,6 +84,13 @@ fn begins_other_rename(kind: Kind) -> bool
         || kind == terminal::AS
 }
 
+/// What behind a name would be its second part: a point, or a number that begins with one.
+fn continues_name(kind: Kind) -> bool
+    ensures { result ≡ continues_name kind }
+{
+    kind == terminal::POINT || kind == terminal::FRACTIONAL
+}
+
 /// The classes of names.
 fn is_name_in(class: Class, kind: Kind) -> bool
     ensures { result ≡ is_name_in class kind }
@@ -148,11 +155,11 @@ fn is_rest_in(class: Class, kind: Kind) -> bool
     match class {
         class::ROW => begins_row_statement(kind),
         class::ANY => true,
-        class::BEHIND_NAME => kind != terminal::POINT,
-        class::BEHIND_CREATED => !(kind == terminal::POINT || kind == terminal::NOT),
-        class::BEHIND_NAMES => !(kind == terminal::POINT || kind == terminal::COMMA),
+        class::BEHIND_NAME => !continues_name(kind),
+        class::BEHIND_CREATED => !(continues_name(kind) || kind == terminal::NOT),
+        class::BEHIND_NAMES => !(continues_name(kind) || kind == terminal::COMMA),
         class::BEHIND_DROPPED => {
-            !(kind == terminal::POINT || kind == terminal::COMMA || kind == terminal::EXISTS)
+            !(continues_name(kind) || kind == terminal::COMMA || kind == terminal::EXISTS)
         }
         class::OTHER_STATEMENT => {
             !(is_between(terminal::CREATE, terminal::RENAME, kind) || begins_row_statement(kind))

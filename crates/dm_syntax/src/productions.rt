@@ -55,6 +55,15 @@ macro_rules! table_name_from {
     };
 }
 
+macro_rules! table_name_and_rest {
+    ($class:expr) => {
+        all_of!(
+            token!($class, role::NAME_PART),
+            one_of!(SECOND_AND_REST, rest_from!(class::BEHIND_NAME))
+        )
+    };
+}
+
 macro_rules! table_name_behind {
     ($clause:expr) => {
         one_of!(
@@ -102,14 +111,25 @@ macro_rules! constraint {
     };
 }
 
-macro_rules! create_index_head {
-    ($role:expr) => {
+macro_rules! create_index_on {
+    ($role:expr, $table:expr) => {
         all_of!(
             token!(terminal::INDEX, $role),
             token!(class::NAME, role::KEY_NAME),
             INDEX_TYPE,
             plain!(terminal::ON),
-            TABLE_NAME
+            $table
+        )
+    };
+}
+
+macro_rules! drop_index_on {
+    ($table:expr) => {
+        all_of!(
+            token!(terminal::INDEX, role::DROP_INDEX),
+            token!(class::NAME, role::DROPPED_KEY),
+            plain!(terminal::ON),
+            $table
         )
     };
 }
@@ -120,6 +140,12 @@ const SECOND_PART: Rule<'static> = optional!(all_of!(
     plain!(terminal::POINT),
     token!(class::NAME, role::NAME_SECOND)
 ));
+
+const SECOND_AND_REST: Rule<'static> = all_of!(
+    plain!(terminal::POINT),
+    token!(class::NAME, role::NAME_SECOND),
+    ANYTHING
+);
 
 const TABLE_NAME: Rule<'static> = table_name_from!(class::NAME);
 
@@ -442,40 +468,52 @@ pub const ALTER_TABLE_HEAD: Rule<'static> = all_of!(
 );
 
 const CREATE_UNIQUE_INDEX: Rule<'static> = all_of!(
-    create_index_head!(role::UNIQUE_INDEX),
+    create_index_on!(role::UNIQUE_INDEX, TABLE_NAME),
     KEY_PARTS,
     INDEX_TYPE
 );
 
 const CREATE_PLAIN_INDEX: Rule<'static> = all_of!(
-    create_index_head!(role::PLAIN_INDEX),
+    create_index_on!(role::PLAIN_INDEX, TABLE_NAME),
     plain!(terminal::OPENING),
     separated!(Rule::Skip, role::FILLER),
     plain!(terminal::CLOSING),
     ANYTHING
 );
 
-const DROP_INDEX: Rule<'static> = all_of!(
-    token!(terminal::INDEX, role::DROP_INDEX),
-    token!(class::NAME, role::DROPPED_KEY),
-    plain!(terminal::ON),
-    TABLE_NAME
+const DROP_INDEX: Rule<'static> = drop_index_on!(TABLE_NAME);
+
+const MORE_NAMES: Rule<'static> = all_of!(
+    Rule::Many(&all_of!(plain!(terminal::COMMA), TABLE_NAME)),
+    rest_from!(class::BEHIND_NAMES)
 );
 
 const DROP_TABLE: Rule<'static> = all_of!(
     token!(terminal::TABLE, role::DROP_TABLE),
-    table_name_behind!(EXISTS),
-    Rule::Many(&all_of!(plain!(terminal::COMMA), TABLE_NAME)),
-    rest_from!(class::BEHIND_DROPPED)
+    one_of!(
+        all_of!(
+            token!(terminal::IF, role::NAME_PART),
+            one_of!(
+                all_of!(EXISTS, TABLE_NAME, MORE_NAMES),
+                all_of!(
+                    SECOND_PART,
+                    one_of!(
+                        all_of!(plain!(terminal::COMMA), TABLE_NAME, MORE_NAMES),
+                        rest_from!(class::BEHIND_DROPPED)
+                    )
+                )
+            )
+        ),
+        all_of!(table_name_from!(class::TABLE_NAME), MORE_NAMES)
+    )
 );
 
 const TRUNCATE_TABLE: Rule<'static> = all_of!(
     token!(terminal::TRUNCATE, role::TRUNCATE),
     one_of!(
-        all_of!(plain!(terminal::TABLE), TABLE_NAME),
-        table_name_from!(class::TRUNCATED)
-    ),
-    rest_from!(class::BEHIND_NAME)
+        all_of!(plain!(terminal::TABLE), table_name_and_rest!(class::NAME)),
+        table_name_and_rest!(class::TRUNCATED)
+    )
 );
 
 const RENAME_TABLE: Rule<'static> = all_of!(
@@ -534,22 +572,28 @@ pub const OTHER_STATEMENT: Rule<'static> = any_other!(
 
 pub const CREATE_TABLE_START: Rule<'static> = all_of!(
     plain!(terminal::CREATE),
-    all_of!(CREATE_TABLE_HEAD, rest_from!(class::BEHIND_CREATED))
+    token!(terminal::TABLE, role::CREATE_TABLE),
+    one_of!(
+        all_of!(
+            token!(terminal::IF, role::NAME_PART),
+            one_of!(
+                all_of!(NOT_EXISTS, table_name_and_rest!(class::NAME)),
+                SECOND_AND_REST,
+                rest_from!(class::BEHIND_CREATED)
+            )
+        ),
+        table_name_and_rest!(class::TABLE_NAME)
+    )
 );
 
 pub const ALTER_TABLE_START: Rule<'static> = all_of!(
     plain!(terminal::ALTER),
-    all_of!(ALTER_TABLE_HEAD, rest_from!(class::BEHIND_NAME))
+    token!(terminal::TABLE, role::ALTER_TABLE),
+    table_name_and_rest!(class::NAME)
 );
 
 pub const OTHER_START: Rule<'static> = any_other!(
-    all_of!(
-        create_index_head!(role::UNIQUE_INDEX),
-        rest_from!(class::BEHIND_NAME)
-    ),
-    all_of!(
-        create_index_head!(role::PLAIN_INDEX),
-        rest_from!(class::BEHIND_NAME)
-    ),
-    all_of!(DROP_INDEX, rest_from!(class::BEHIND_NAME))
+    create_index_on!(role::UNIQUE_INDEX, table_name_and_rest!(class::NAME)),
+    create_index_on!(role::PLAIN_INDEX, table_name_and_rest!(class::NAME)),
+    drop_index_on!(table_name_and_rest!(class::NAME))
 );
