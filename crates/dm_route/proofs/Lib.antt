@@ -1,0 +1,3 @@
+pub mod Laws
+pub mod Overlaps
+pub mod Runs

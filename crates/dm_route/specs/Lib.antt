@@ -1,0 +1,4 @@
+pub mod Characters
+pub mod Patterns
+pub mod Reaching
+pub mod Rules
