@@ -1,5 +1,6 @@
 -- Known bytes: what the definitions spell is what a server writes.
-use Rattle.std.proofs.Common.{◌≡◌, [], ◌∷◌, ◌++◌, replicate, pos, negsuc, true, false, refl}
+use Rattle.std.proofs.Common.{◌≡◌, ℕ, List, [], ◌∷◌, ◌++◌, map, replicate, pos, negsuc, true, false, refl}
+use Rattle.dm_schema.specs.declared.column.Kind.{Kind}
 use Rattle.dm_schema.specs.declared.column.Kind.TheVariants as kind
 use Rattle.dm_value.specs.declared.value.Value.TheVariants as value
 use Rattle.dm_encode.specs.Numbers.{be_bytes, le_bytes, lenenc_bytes}
@@ -66,3 +67,34 @@ second_bit = refl
 ninth_bit : bitmap (replicate 8 false ++ true ∷ []) ≡ 0x00 ∷ 0x01 ∷ []
 unfolding bitmap le_bytes
 ninth_bit = refl
+
+-- A table map's type code of each kind with its metadata, as MySQL's manual of internals has them.
+abbrev coded : Kind → List ℕ
+coded k = (column_map k).code ∷ metadata_bytes (column_map k)
+
+-- MYSQL_TYPE_TINY, SHORT, INT24, LONG and LONGLONG have none
+integer_maps : map coded (kind.Signed 1 ∷ kind.Signed 2 ∷ kind.Unsigned 3 ∷ kind.Signed 4 ∷ kind.Unsigned 8 ∷ []) ≡ (1 ∷ []) ∷ (2 ∷ []) ∷ (9 ∷ []) ∷ (3 ∷ []) ∷ (8 ∷ []) ∷ []
+unfolding le_bytes
+integer_maps = refl
+
+-- NEWDECIMAL has precision and scale: DECIMAL(14,4)
+decimal_map : coded (kind.Decimal 14 4) ≡ 0xf6 ∷ 0x0e ∷ 0x04 ∷ []
+unfolding le_bytes
+decimal_map = refl
+
+-- STRING has its real type and length: CHAR(10) and BINARY(16); VARCHAR has its length: VARCHAR(20) and VARBINARY(300)
+string_maps :
+    map coded (kind.Char 10 ∷ kind.Binary 16 ∷ kind.Varchar 20 ∷ kind.Varbinary 300 ∷ [])
+    ≡ (0xfe ∷ 0xfe ∷ 0x28 ∷ []) ∷ (0xfe ∷ 0xfe ∷ 0x10 ∷ []) ∷ (0x0f ∷ 0x50 ∷ 0x00 ∷ []) ∷ (0x0f ∷ 0x2c ∷ 0x01 ∷ []) ∷ []
+unfolding le_bytes
+string_maps = refl
+
+-- BLOB has the bytes of its length prefix: TINYTEXT, LONGTEXT, BLOB, MEDIUMBLOB
+lob_maps : map coded (kind.Text 1 ∷ kind.Text 4 ∷ kind.Blob 2 ∷ kind.Blob 3 ∷ []) ≡ (0xfc ∷ 1 ∷ []) ∷ (0xfc ∷ 4 ∷ []) ∷ (0xfc ∷ 2 ∷ []) ∷ (0xfc ∷ 3 ∷ []) ∷ []
+unfolding le_bytes
+lob_maps = refl
+
+-- DATE and YEAR have none, DATETIME2 and TIMESTAMP2 the digits of their fraction
+time_maps : map coded (kind.Date ∷ kind.Year ∷ kind.Datetime 6 ∷ kind.Timestamp 3 ∷ []) ≡ (0x0a ∷ []) ∷ (0x0d ∷ []) ∷ (0x12 ∷ 6 ∷ []) ∷ (0x11 ∷ 3 ∷ []) ∷ []
+unfolding le_bytes
+time_maps = refl
