@@ -30,17 +30,17 @@ hit : (b low high : ℕ) (bs : List ℕ) (others : List (ℕ × ℕ)) (rows : Li
     → length_among (((low, high) ∷ others) ∷ rows) (b ∷ bs) ≡ suc (length others)
 hit b low high bs others rows above below rest = rw (one b low high bs others above below rest) refl
 
-abbrev IsNext : ℕ → Type 0
+abbrev pub IsNext : ℕ → Type 0
 IsNext b = (128 ≤ b) × (b < 192)
 
 next : (b : ℕ) (bs : List ℕ) (others : List (ℕ × ℕ)) → IsNext b → lies_in bs others ≡ true → lies_in (b ∷ bs) (following ∷ others) ≡ true
 next b bs others range rest = one b 128 191 bs others range.0 (omega arith) rest
 
 -- one, two or three bytes behind the first, between 0x80 and 0xBF
-abbrev one_next : List (ℕ × ℕ)
+abbrev pub one_next : List (ℕ × ℕ)
 one_next = following ∷ []
 
-abbrev two_next : List (ℕ × ℕ)
+abbrev pub two_next : List (ℕ × ℕ)
 two_next = following ∷ following ∷ []
 
 abbrev three_next : List (ℕ × ℕ)

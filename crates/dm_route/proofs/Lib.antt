@@ -1,3 +1,4 @@
+pub mod Decodings
 pub mod Encodings
 pub mod Laws
 pub mod Overlaps
