@@ -18,7 +18,7 @@ abbrev Follows : List ℕ → Type 0
 Follows [] = ⊥
 Follows (b ∷ bs) = (128 ≤ b) × (b < 192)
 
-between : (b low high : ℕ) (more : Bool) → (leb low b && leb b high && more) ≡ true → (low ≤ b) × (b ≤ high) × (more ≡ true)
+pub between : (b low high : ℕ) (more : Bool) → (leb low b && leb b high && more) ≡ true → (low ≤ b) × (b ≤ high) × (more ≡ true)
 between b low high more h =
     let front = and_parts (leb low b && leb b high) more h in
     let both = and_parts (leb low b) (leb b high) front.0 in
