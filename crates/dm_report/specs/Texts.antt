@@ -7,6 +7,7 @@ use Rattle.dm_value.specs.declared.value.Value.TheVariants as value
 use Rattle.dm_schema.specs.declared.column.Kind.{Kind}
 use Rattle.dm_schema.specs.declared.column.Kind.TheVariants as kind
 use Rattle.dm_schema.specs.declared.column.Column.{Column}
+use Rattle.dm_schema.specs.declared.column.UniqueKey.{UniqueKey}
 
 -- pieces with commas between them
 abbrev pub with_commas : List (List ℕ) → List ℕ
@@ -96,14 +97,14 @@ abbrev pub column_line : Column → List ℕ
 column_line c = codes "column " ++ quoted c.name ++ 32 ∷ kind_text c.kind ++ nullable_text c.nullable ++ 10 ∷ []
 
 -- the lines of the columns, of the primary key and of the number of rows
-abbrev pub head_text : List Column → List (List ℕ) → ℕ → List ℕ
-head_text columns primary count =
+abbrev pub head_text : List Column → List (List ℕ) → List UniqueKey → ℕ → List ℕ
+head_text columns primary uniques count =
     flat_map column_line columns ++ codes "primary " ++ name_list primary ++ 10 ∷ codes "rows " ++ decimal count ++ 10 ∷ []
 
 -- row (value,value)
-abbrev pub row_line : List Value → List ℕ
-row_line row = codes "row (" ++ with_commas (map value_text row) ++ codes ")\n"
+abbrev pub row_line : List Column → List Value → List ℕ
+row_line columns row = codes "row (" ++ with_commas (map value_text row) ++ codes ")\n"
 
 -- the whole text, with the rows
-abbrev pub table_text : List Column → List (List ℕ) → List (List Value) → ℕ → List ℕ
-table_text columns primary rows count = head_text columns primary count ++ flat_map row_line rows
+abbrev pub table_text : List Column → List (List ℕ) → List UniqueKey → List (List Value) → ℕ → List ℕ
+table_text columns primary uniques rows count = head_text columns primary uniques count ++ flat_map (row_line columns) rows

@@ -4,11 +4,13 @@
 mod faults;
 mod kind_text;
 mod status;
+mod tasks;
 #[cfg(test)]
 mod tests;
 mod text;
 mod value_text;
 
 pub use faults::fault_line;
-pub use status::Status;
+pub use status::{Status, Which};
+pub use tasks::task_text;
 pub use text::{push_head, push_row};

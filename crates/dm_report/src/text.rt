@@ -5,7 +5,7 @@ ghost use Rattle.dm_report.specs.Texts.{with_commas, doubled, quoted, name_list,
 
 use crate::kind_text::push_kind;
 use crate::value_text::push_values;
-use dm_schema::Column;
+use dm_schema::{Column, UniqueKey};
 use dm_value::{Name, Value};
 use std::alloc::{AllocError, Global};
 
@@ -16,10 +16,11 @@ pub fn push_head(
     out: &mut Vec<u8>,
     columns: &[Column],
     primary: &[Name],
+    uniques: &[UniqueKey],
     count: u64,
 ) -> Result<(), AllocError>
     ensures { OnOk result
-        (out.new.items ≡ out.old.items ++ head_text columns.now primary.now count) }
+        (out.new.items ≡ out.old.items ++ head_text columns.now primary.now uniques.now count) }
 {
     push_columns(alloc, out, columns)?;
     push_primary(out, primary)?;
@@ -28,8 +29,8 @@ pub fn push_head(
 
 /// Adds the line of a row. Values stand in the order in which they are to be printed. Where memory runs out, a part
 /// of the line may have been added.
-pub fn push_row(alloc: Global, out: &mut Vec<u8>, row: &[Value]) -> Result<(), AllocError>
-    ensures { OnOk result (out.new.items ≡ out.old.items ++ row_line row.now) }
+pub fn push_row(alloc: Global, out: &mut Vec<u8>, columns: &[Column], row: &[Value]) -> Result<(), AllocError>
+    ensures { OnOk result (out.new.items ≡ out.old.items ++ row_line columns.now row.now) }
 {
     out.extend_from_slice(b"row (")?;
     push_values(alloc, out, row)?;

@@ -1,6 +1,5 @@
-mod Entries
-mod Merging
-mod Fronts
+mod Adding
 mod Gathering
 mod Laws
-mod Whole
+mod Merging
+mod Reading

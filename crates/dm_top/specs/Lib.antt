@@ -1,5 +1,6 @@
 pub mod Load
 pub mod Merge
 pub mod Reading
+pub mod Rows
+pub mod Sources
 pub mod Top
-pub mod Words

@@ -1,95 +1,114 @@
--- What `load` prints of dumps with equal schemas: the columns in byte order of their names, and the rows of all dumps
--- by primary key.
-use Rattle.std.specs.Prelude.{◌≡◌, ℕ, Bool, true, not, ◌&&◌, List, [], ◌∷◌, ◌++◌, length, map, fold, Option, Some, None, Result, Ok, Err, MatchBool}
-use Rattle.std.specs.List.{flat_map, list_all}
+-- What `load` prints of dumps: the join of their schemas, and the rows of all of them by primary key, a column that a
+-- dump lacks filled.
+use Rattle.std.specs.Prelude.{◌≡◌, ℕ, ◌+◌, ◌*◌, nat_lt, Bool, true, false, not, ◌||◌, List, [], ◌∷◌, ◌++◌, length, map, fold, codes, Option, Some, None, Result, Ok, Err, if◌then◌else◌}
+use Rattle.std.specs.List.{list_any, filter, flat_map}
 use Rattle.std.specs.Ordering.{eq_by_cmp}
 use Rattle.std.specs.FinMap as fin
 use Rattle.std.specs.FinMap.{FinMap}
-use Rattle.dm_base.specs.Outside.{Files}
+use Rattle.dm_list.specs.Answer.{first_refusal}
 use Rattle.dm_value.specs.declared.value.Value.{Value}
+use Rattle.dm_value.specs.declared.value.Value.TheVariants as value
 use Rattle.dm_value.specs.Order.{row_cmp}
-use Rattle.dm_schema.specs.Names.{Text, column_names, repeats}
-use Rattle.dm_schema.specs.NameOrder.{columns_in_order}
-use Rattle.dm_schema.specs.Rows.{key_of, values_at}
-use Rattle.dm_schema.specs.Schemas.{schema_equal}
+use Rattle.dm_schema.specs.declared.column.UniqueKey.{UniqueKey}
+use Rattle.dm_schema.specs.declared.table_name.TableName.{TableName}
+use Rattle.dm_schema.specs.Layout.{Layout}
+use Rattle.dm_schema.specs.Names.{Text, repeats}
+use Rattle.dm_schema.specs.Rows.{values_at}
+use Rattle.dm_join.specs.declared.no_join.NoJoin.{NoJoin}
+use Rattle.dm_join.specs.declared.no_join.NoJoin.TheVariants as no_join
+use Rattle.dm_join.specs.Join.{join}
 use Rattle.dm_dump.specs.declared.dump.Dump.{Dump}
-use Rattle.dm_dump.specs.PlainDump.{IsPlainDump}
+use Rattle.dm_dump.specs.declared.fault.Fault.{Fault}
+use Rattle.dm_dump.specs.Dumps.{IsDump}
+use Rattle.dm_report.specs.declared.status.Status.{Status}
+use Rattle.dm_report.specs.declared.status.Status.TheVariants as status
+use Rattle.dm_report.specs.declared.status.Which.{Which}
+use Rattle.dm_report.specs.declared.status.Which.TheVariants as which
 use Rattle.dm_report.specs.Texts.{table_text}
+use Rattle.dm_top.specs.declared.limits.TheConstants.{MOST_ITEMS, MOST_VALUES}
+use Rattle.dm_top.specs.Reading.{Named}
+use Rattle.dm_top.specs.Rows.{Said, Row, Entry, all_entries}
 
--- a row, its values in some order of the columns
-abbrev pub Row : Type 0
-Row = List Value
+-- Dumps.
 
--- a row under its primary key
-abbrev pub Entry : Type 0
-Entry = Row × Row
+-- how it ends at a dump's first fault
+abbrev pub bad_dump : Text → Fault → Status
+bad_dump name f = status.Dump name f.at f.cause
 
--- the columns' names in byte order
-abbrev pub ordered_names : Dump → List Text
-ordered_names dump = column_names (columns_in_order dump.schema.columns)
+abbrev pub with_dump : Said → Result (List Said) Status → Result (List Said) Status
+with_dump said (Ok others) = Ok (said ∷ others)
+with_dump said (Err s) = Err s
 
--- a row under its key, its values in byte order of the columns' names
-abbrev pub entry_of : Dump → Row → Entry
-entry_of dump row = (key_of dump.schema row, values_at dump.schema.columns row (ordered_names dump))
+-- A file that is a dump, behind which others come; or how it ends at its first fault.
+abbrev pub GoesOn : (Result (List Said) Status → Type 0) → Named → Result Dump Fault → Result (List Said) Status → Type 0
+GoesOn Others file (Err f) outcome = outcome ≡ Err (bad_dump file.0 f)
+GoesOn Others file (Ok dump) outcome = (others : Result (List Said) Status) × Others others × (outcome ≡ with_dump (record { text = file.1; dump = dump }) others)
 
-abbrev pub entries_of : Dump → List Entry
-entries_of dump = map (entry_of dump) dump.rows
+-- What these files say, each of which is a dump; or how it ends at the first that is none.
+abbrev pub ReadsDumps : List Named → Result (List Said) Status → Type 0
+ReadsDumps [] outcome = outcome ≡ Ok []
+ReadsDumps (file ∷ files) outcome = (read : Result Dump Fault) × IsDump file.1 read × GoesOn (ReadsDumps files) file read outcome
 
-abbrev pub all_entries : List Dump → List Entry
-all_entries dumps = flat_map entries_of dumps
+-- Limits.
 
-abbrev pub same_key : Row → Row → Bool
-same_key = eq_by_cmp row_cmp
+-- how many rows the dumps have
+abbrev pub items_of : List Said → ℕ
+items_of [] = 0
+items_of (said ∷ rest) = length said.dump.inserts.places + items_of rest
 
-abbrev pub keys_of : List Entry → List Row
+-- how many values their rows have
+abbrev pub values_of : List Said → ℕ
+values_of [] = 0
+values_of (said ∷ rest) = length said.dump.inserts.places * length said.dump.schema.columns + values_of rest
+
+-- Keys.
+
+abbrev pub same_row : Row → Row → Bool
+same_row = eq_by_cmp row_cmp
+
+abbrev pub keys_of : {V : Type 0} → List (Row × V) → List Row
 keys_of entries = map (λ e. e.0) entries
 
--- the schema of each is equal to the first's
-abbrev pub have_one_schema : List Dump → Bool
-have_one_schema [] = true
-have_one_schema (first ∷ rest) = list_all (λ dump. schema_equal first.schema dump.schema) rest
+abbrev pub is_null : Value → Bool
+is_null value.Null = true
+is_null v = false
 
--- dumps with one schema, no two rows of which have one key
-abbrev pub stand_together : List Dump → Bool
-stand_together dumps = have_one_schema dumps && not (repeats same_key (keys_of (all_entries dumps)))
+-- the values of rows under a unique key, without those that have a NULL: they are equal to none
+abbrev pub values_under : Layout → List Row → UniqueKey → List Row
+values_under joined rows key = filter (λ values. not (list_any is_null values)) (map (λ row. values_at joined.columns row key.columns) rows)
 
-abbrev pub with_first : Text → Option Text → Result (List (Text × Text)) Text → Result (List (Text × Text)) Text
-with_first name None others = Err name
-with_first name (Some text) (Ok others) = Ok ((name, text) ∷ others)
-with_first name (Some text) (Err other) = Err other
+-- two rows have the same values under the primary key, or under a unique key
+abbrev pub clash : Layout → List Entry → Bool
+clash joined entries =
+    repeats same_row (keys_of entries) || list_any (λ key. repeats same_row (values_under joined (map (λ e. e.1) entries) key)) joined.uniques
 
--- the files of these names, each with its text, or the first name that has none
-abbrev pub texts_of : Files → List Text → Result (List (Text × Text)) Text
-texts_of files [] = Ok []
-texts_of files (name ∷ names) = with_first name (files name) (texts_of files names)
-
--- What a text says: a plain dump with this value, or none.
-abbrev pub Says : Text → Option Dump → Type 0
-Says text None = (dump : Dump) → IsPlainDump text dump → ⊥
-Says text (Some dump) = IsPlainDump text dump
-
--- A further file, after these dumps: the others follow where it is a plain dump that stands together with those before
--- it; else its name is the outcome.
-abbrev pub Follows : (List Dump → Type 0) → List Dump → Text → Option Dump → Result (List Dump) Text → Type 0
-Follows others before name None outcome = outcome ≡ Err name
-Follows others before name (Some dump) outcome = MatchBool (stand_together (before ++ dump ∷ [])) (others (before ++ dump ∷ [])) (outcome ≡ Err name)
-
--- The outcome of files, each a name and a text, after these dumps: all dumps; or the name of the first file that isn't a
--- plain dump, or doesn't stand together with those before it.
-abbrev pub Gathers : List Dump → List (Text × Text) → Result (List Dump) Text → Type 0
-Gathers before [] outcome = outcome ≡ Ok before
-Gathers before (file ∷ files) outcome = (read : Option Dump) × Says file.1 read × Follows (λ dumps. Gathers dumps files outcome) before file.0 read outcome
+-- The table.
 
 -- the map from primary key to row
-abbrev pub map_of : List Entry → FinMap row_cmp Row
+abbrev pub map_of : {V : Type 0} → List (Row × V) → FinMap row_cmp V
 map_of entries = fold (λ m e. fin.insert m e.0 e.1) fin.empty entries
 
 -- the rows by primary key
 abbrev pub rows_by_key : List Entry → List Row
 rows_by_key entries = fin.values (map_of entries)
 
--- the text of the table of one dump or more
-abbrev pub merged_text : List Dump → List ℕ
-merged_text [] = []
-merged_text (first ∷ rest) =
-    table_text (columns_in_order first.schema.columns) first.schema.primary (rows_by_key (all_entries (first ∷ rest))) (length (rows_by_key (all_entries (first ∷ rest))))
+-- the text of the table with these entries
+abbrev pub merged_text : Layout → List Entry → Text
+merged_text joined entries = table_text joined.columns joined.primary joined.uniques (rows_by_key entries) (length (rows_by_key entries))
+
+-- What `load` is called by where no table is named.
+abbrev pub load_table : TableName
+load_table = record { db = codes "load"; table = codes "load" }
+
+-- the text, or how it ends where rows clash, over the join or the reason that there is none
+abbrev pub merged_over : Result Layout NoJoin → List Said → Result Text Status
+merged_over (Err (no_join.At column cause)) said = Err (status.First load_table column cause)
+merged_over (Err no_join.Memory) said = Err status.Memory
+merged_over (Ok joined) said = if clash joined (all_entries joined said) then Err status.Unlawful else Ok (merged_text joined (all_entries joined said))
+
+-- The text of dumps, or how it ends: too many rows, too many values, schemas without a join, rows that clash.
+abbrev pub merged_of : List Said → Result Text Status
+merged_of said = by (first_refusal ((nat_lt MOST_ITEMS (items_of said), which.Items) ∷ (nat_lt MOST_VALUES (values_of said), which.Values) ∷ [])) where
+  by : Option Which → Result Text Status
+  by (Some limit) = Err (status.Limit limit)
+  by None = merged_over (join (map (λ s. s.dump.schema) said)) said

@@ -1,46 +1,121 @@
 -- How the top call ends, and what it puts.
-use Rattle.std.specs.Prelude.{◌≡◌, ◌↔◌, ⊤, Bool, true, false, List, [], Option, None, Result, Ok, Err, IfSome, MatchBool, MatchOption, MatchResult}
+use Rattle.std.specs.Prelude.{◌≡◌, ◌≢◌, ⊤, Bool, true, false, ◌||◌, ◌&&◌, not, List, [], ◌∷◌, Option, Some, None, Result, Ok, Err, IfSome, MatchBool, MatchResult}
+use Rattle.std.specs.Global.{Vec}
 use Rattle.dm_base.specs.Outside.{Files, added, AddsPart}
 use Rattle.dm_schema.specs.Names.{Text}
-use Rattle.dm_dump.specs.declared.dump.Dump.{Dump}
 use Rattle.dm_report.specs.declared.status.Status.{Status}
 use Rattle.dm_report.specs.declared.status.Status.TheVariants as status
 use Rattle.dm_report.specs.Faults.{fault_line}
-use Rattle.dm_top.specs.Load.{texts_of, Gathers, merged_text}
-use Rattle.dm_top.specs.Words.{names_of}
+use Rattle.dm_report.specs.Tasks.{task_text}
+use Rattle.dm_task.specs.declared.task.Task.{Task}
+use Rattle.dm_task.specs.declared.fault.TaskFault.{TaskFault}
+use Rattle.dm_task.specs.declared.fault.TaskFault.TheVariants as task_fault
+use Rattle.dm_task.specs.TaskFile.{task_of}
+use Rattle.dm_words.specs.declared.order.Order.{Order}
+use Rattle.dm_words.specs.declared.order.Order.TheVariants as order
+use Rattle.dm_words.specs.Words.{order_of}
+use Rattle.dm_top.specs.declared.limits.TheConstants.{MOST_BYTES}
+use Rattle.dm_top.specs.declared.files.NamedFile.{NamedFile}
+use Rattle.dm_top.specs.Reading.{Named, named_of, files_of}
+use Rattle.dm_top.specs.Rows.{Said}
+use Rattle.dm_top.specs.Load.{ReadsDumps, merged_of}
 
 -- what a command answers before anything is put: a text to print, or how it ends otherwise
 abbrev pub Answer : Type 0
 Answer = Result Text Status
 
+abbrev pub is_memory : Status → Bool
+is_memory status.Memory = true
+is_memory s = false
+
+abbrev pub is_read_fault : Status → Bool
+is_read_fault status.ReadFault = true
+is_read_fault s = false
+
+abbrev pub is_write_fault : Status → Bool
+is_write_fault status.WriteFault = true
+is_write_fault s = false
+
+abbrev pub is_missing : Status → Bool
+is_missing (status.Missing name) = true
+is_missing s = false
+
+abbrev pub is_usage : Status → Bool
+is_usage status.Usage = true
+is_usage s = false
+
+abbrev pub is_done : Status → Bool
+is_done status.Done = true
+is_done s = false
+
 -- Memory may run out and a read may fail whatever the words and the files are.
 abbrev pub is_free : Answer → Bool
 is_free (Ok text) = false
-is_free (Err status.Done) = false
-is_free (Err status.Usage) = false
-is_free (Err (status.Missing name)) = false
-is_free (Err status.ReadFault) = true
-is_free (Err status.WriteFault) = false
-is_free (Err status.Memory) = true
-is_free (Err (status.Later name)) = false
+is_free (Err s) = is_memory s || is_read_fault s
 
-abbrev pub printed : Result (List Dump) Text → Answer
-printed (Ok dumps) = Ok (merged_text dumps)
-printed (Err name) = Err (status.Later name)
+-- an answer that a command may give before anything is put
+abbrev pub is_refusal : Status → Bool
+is_refusal s = not (is_done s || is_write_fault s)
 
--- The answer is what comes of these files, merged in turn.
-abbrev pub Merges : List (Text × Text) → Answer → Type 0
-Merges files answer = (outcome : Result (List Dump) Text) × Gathers [] files outcome × (answer ≡ printed outcome)
+-- how a command may end at what its files say, once they are read
+abbrev pub is_own : Status → Bool
+is_own s = is_refusal s && not (is_usage s || is_read_fault s || is_missing s)
 
--- The answer of `load` of these names: the first file that isn't there, or else what comes of the files.
+-- what was read of files of these names, or how a command ends at the first that isn't read
+abbrev pub FilesOrEnd : Files → List Text → Result (Vec NamedFile) Status → Type 0
+FilesOrEnd files names (Ok read) = files_of files MOST_BYTES names ≡ Ok (named_of read.items)
+FilesOrEnd files names (Err s) = MatchBool (is_memory s || is_read_fault s) ⊤ (files_of files MOST_BYTES names ≡ Err s)
+
+-- Commands.
+
+abbrev pub merged_or : Result (List Said) Status → Answer
+merged_or (Ok said) = merged_of said
+merged_or (Err s) = Err s
+
+-- `load` of these files
+abbrev pub Merges : List Named → Answer → Type 0
+Merges files answer = (outcome : Result (List Said) Status) × ReadsDumps files outcome × (answer ≡ merged_or outcome)
+
+-- `load` of files of these names
 abbrev pub Loads : Files → List Text → Answer → Type 0
-Loads files names answer = MatchResult (texts_of files names) (λ texts. Merges texts answer) (λ missing. answer ≡ Err (status.Missing missing))
+Loads files names answer = MatchResult (files_of files MOST_BYTES names) (λ read. Merges read answer) (λ s. answer ≡ Err s)
 
--- The answer to these words, over these files.
+-- what is printed of a task, or the first fault of its file
+abbrev pub checked : Result Task TaskFault → Answer
+checked (Ok task) = Ok (task_text task)
+checked (Err (task_fault.At path cause)) = Err (status.Task path cause)
+checked (Err task_fault.Memory) = Err status.Memory
+
+abbrev pub checked_files : List Named → Answer
+checked_files [] = Err status.Usage
+checked_files (file ∷ files) = checked (task_of file.1)
+
+-- `check-task` of the file of this name
+abbrev pub Checks : Files → Text → Answer → Type 0
+Checks files name answer = MatchResult (files_of files MOST_BYTES (name ∷ [])) (λ read. answer ≡ checked_files read) (λ s. answer ≡ Err s)
+
+-- whether an order is one of those that are carried out
+abbrev pub is_known : Option Order → Bool
+is_known None = false
+is_known (Some (order.Load files)) = true
+is_known (Some (order.CheckTask file)) = true
+is_known (Some (order.Run file limit workers stop_after)) = false
+is_known (Some order.Show) = false
+is_known (Some (order.Gen number workers)) = false
+
+-- The answer to an order, over these files.
+abbrev pub AnswersOrder : Files → Option Order → Answer → Type 0
+AnswersOrder files (Some (order.Load names)) answer = Loads files names answer
+AnswersOrder files (Some (order.CheckTask name)) answer = Checks files name answer
+AnswersOrder files _ answer = answer ≡ Err status.Usage
+
+-- The answer to these words; one that is free may come to any of them.
 abbrev pub AnswersWords : Files → List Text → Answer → Type 0
-AnswersWords files words answer = MatchOption (names_of words) (answer ≡ Err status.Usage) (λ names. MatchBool (is_free answer) ⊤ (Loads files names answer))
+AnswersWords files words answer = MatchBool (is_free answer) ⊤ (AnswersOrder files (order_of words) answer)
 
--- what is put: the text, or the fault line
+-- What is put.
+
+-- the text, or the fault line
 abbrev pub output_of : Answer → Text
 output_of (Ok text) = text
 output_of (Err s) = fault_line s
@@ -52,37 +127,14 @@ status_of (Err s) = s
 -- How a command with this answer ended, and what was put: nothing where memory ran out; a part of the output where the
 -- sink failed; else the whole output, and the status is the answer's.
 abbrev pub Ends : Answer → Status → Option Text → Option Text → Type 0
-Ends answer status.Memory before now = now ≡ before
-Ends answer status.WriteFault before now = AddsPart before (output_of answer) now
-Ends answer status.Done before now = (status.Done ≡ status_of answer) × (now ≡ added before (output_of answer))
-Ends answer status.Usage before now = (status.Usage ≡ status_of answer) × (now ≡ added before (output_of answer))
-Ends answer (status.Missing name) before now = (status.Missing name ≡ status_of answer) × (now ≡ added before (output_of answer))
-Ends answer status.ReadFault before now = (status.ReadFault ≡ status_of answer) × (now ≡ added before (output_of answer))
-Ends answer (status.Later name) before now = (status.Later name ≡ status_of answer) × (now ≡ added before (output_of answer))
+Ends answer ended before now =
+    MatchBool (is_memory ended) (now ≡ before)
+    (MatchBool (is_write_fault ended) (AddsPart before (output_of answer) now)
+    ((ended ≡ status_of answer) × (now ≡ added before (output_of answer))))
 
 -- What the top call does with these words: there is an answer to them, and it ended so.
 pub record Runs (words : List Text) (files : Option Files) (ended : Status) (before now : Option Text) : Type 0 where
   pub answer : Answer
   pub told : IfSome files (λ files. AnswersWords files words answer)
-  pub usage : (answer ≡ Err status.Usage) ↔ (names_of words ≡ None)
+  pub usage : MatchBool (is_known (order_of words)) (answer ≢ Err status.Usage) (MatchBool (is_free answer) ⊤ (answer ≡ Err status.Usage))
   pub put : Ends answer ended before now
-
--- a refusal: an answer that a command may give before anything is put
-abbrev pub IsRefusal : Status → Type 0
-IsRefusal status.Done = ⊥
-IsRefusal status.Usage = Unit {0}
-IsRefusal (status.Missing name) = Unit {0}
-IsRefusal status.ReadFault = Unit {0}
-IsRefusal status.WriteFault = ⊥
-IsRefusal status.Memory = Unit {0}
-IsRefusal (status.Later name) = Unit {0}
-
--- There is no file of some name.
-abbrev pub IsMissing : Status → Type 0
-IsMissing status.Done = ⊥
-IsMissing status.Usage = ⊥
-IsMissing (status.Missing name) = Unit {0}
-IsMissing status.ReadFault = ⊥
-IsMissing status.WriteFault = ⊥
-IsMissing status.Memory = ⊥
-IsMissing (status.Later name) = ⊥

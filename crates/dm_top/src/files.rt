@@ -1,24 +1,24 @@
-ghost use Rattle.std.specs.Prelude.{◌≡◌, ◌≤◌, ◌<◌, length, map, string_bytes, IfSome, IfOk, IsErrOf};
+ghost use Rattle.std.specs.Prelude.{◌≡◌, ◌≤◌, length, All, IfSome, IfOk, IsErrOf};
+ghost use Rattle.std.specs.Str.{IsUtf8};
 ghost use Rattle.dm_base.specs.Outside.{Rose};
 ghost use Rattle.dm_top.specs.Reading.{ReadsFile, ReadsFiles, IsMissing};
 
 use dm_base::{Shelf, ShelfError};
-use dm_dump::MOST_BYTES;
 use dm_list::Bytes;
 use std::alloc::{AllocError, AllocFailed, Global};
 
-/// A file by its name.
 #[derive(Debug, Drop)]
 pub struct NamedFile {
     pub name: Bytes,
     pub bytes: Vec<u8>,
 }
 
-/// Why files weren't read.
 #[derive(Debug, Drop)]
 pub enum ReadFault {
     /// There is no file of the name.
     Missing { name: Bytes },
+    /// The file is longer than the room that those before it left.
+    TooLong,
     Failed,
     Memory,
 }
@@ -49,16 +49,23 @@ fn name_of(alloc: Global, name: &str) -> Result<Bytes, AllocError>
     Ok(Bytes::new(Vec::from_slice(alloc, name.as_bytes())?))
 }
 
-/// The front of a file, with its name.
-fn read_file<F: Shelf>(alloc: Global, shelf: &mut F, name: &str) -> Result<NamedFile, ReadFault>
-    ensures told { IfSome (F.files shelf.old) (λ files. ReadsFile files name.now result) }
+/// The file of a name, where it is no longer than the room.
+pub fn read_file<F: Shelf>(
+    alloc: Global,
+    shelf: &mut F,
+    name: &str,
+    room: u32,
+) -> Result<NamedFile, ReadFault>
+    ensures told { IfSome (F.files shelf.old) (λ files. ReadsFile files room name.now result) }
+    ensures room { IfOk result (λ file. length file.bytes.items ≤ room) }
     ensures files { F.files shelf.new ≡ F.files shelf.old }
     ensures faults { F.faults shelf.old ≤ F.faults shelf.new }
     ensures misses { F.misses shelf.old ≤ F.misses shelf.new }
     ensures failed { IsErrOf result ReadFault.Failed → Rose (F.faults shelf.old) (F.faults shelf.new) }
     ensures missing { IsMissing result → Rose (F.misses shelf.old) (F.misses shelf.new) }
 {
-    match shelf.read_file(alloc, name, MOST_BYTES as u32) {
+    match shelf.read_file(alloc, name, room) {
+        Ok(bytes) if bytes.len() > room as usize => Err(ReadFault::TooLong),
         Ok(bytes) => Ok(NamedFile {
             name: name_of(alloc, name)?,
             bytes,
@@ -71,13 +78,17 @@ fn read_file<F: Shelf>(alloc: Global, shelf: &mut F, name: &str) -> Result<Named
     }
 }
 
-/// The fronts of the files of these names, in turn.
+/// The files of these names, in turn, as long as all of them together are no longer than the room.
 pub fn read_files<F: Shelf>(
     alloc: Global,
     shelf: &mut F,
-    names: &[String],
+    names: &[Bytes],
+    most: u32,
 ) -> Result<Vec<NamedFile>, ReadFault>
-    ensures told { IfSome (F.files shelf.old) (λ files. ReadsFiles files (map string_bytes names.now) result) }
+    requires { All IsUtf8 names.now }
+    ensures told { IfSome (F.files shelf.old) (λ files. ReadsFiles files most names.now result) }
+    ensures sizes { IfOk result (λ files. All (λ f. length f.bytes.items ≤ most) files.items) }
+    ensures count { IfOk result (λ files. length files.items ≡ length names.now) }
     ensures files { F.files shelf.new ≡ F.files shelf.old }
     ensures faults { F.faults shelf.old ≤ F.faults shelf.new }
     ensures misses { F.misses shelf.old ≤ F.misses shelf.new }
@@ -85,8 +96,19 @@ pub fn read_files<F: Shelf>(
     ensures missing { IsMissing result → Rose (F.misses shelf.old) (F.misses shelf.new) }
 {
     let mut files = Vec::with_capacity(alloc, names.len())?;
+    let mut room = most;
     for name in names {
-        files.push(read_file(alloc, shelf, name.as_str())?)?;
+        let file = read_file(alloc, shelf, text_of(name), room)?;
+        room -= file.bytes.len() as u32;
+        files.push(file)?;
     }
     Ok(files)
+}
+
+/// A name as the text that it is.
+fn text_of(name: &Bytes) -> &str
+    requires { IsUtf8 name.now }
+    ensures { result.now ≡ name.now }
+{
+    str::from_utf8(name.as_slice()).unwrap()
 }

@@ -1,15 +1,19 @@
-//! The top call: all that the program does, over files, a journal and an output that are handed in.
+//! The top call: all that the program does for commands that wait for nobody, over files, a journal and an output that
+//! are handed in.
 #![tactic(auto)]
 
+mod check;
 mod files;
+mod keys;
+mod limits;
 mod load;
 mod merge;
 mod plain;
 mod rows;
+mod sources;
 #[cfg(test)]
 mod tests;
 mod text;
-mod words;
 
 pub use dm_report::Status;
 pub use plain::dm_plain;

@@ -1,67 +1,72 @@
-ghost use Rattle.std.specs.Prelude.{◌≡◌, ◌≢◌, ◌↔◌, None, Err, map, string_bytes, IfSome, IfErr, IsErrAnd, MatchBool, ⊤};
+ghost use Rattle.std.specs.Prelude.{◌≡◌, ◌≢◌, ◌<◌, ⊤, Err, length, All, IfSome, IfErr, IsErrAnd, MatchBool, IsTrue};
+ghost use Rattle.std.specs.Str.{IsUtf8};
+ghost use Rattle.std.specs.Result.{ForErr};
 ghost use Rattle.dm_base.specs.Outside.{Rose};
-ghost use Rattle.dm_top.specs.Merge.{named_texts};
-ghost use Rattle.dm_top.specs.Words.{names_of};
-ghost use Rattle.dm_top.specs.Top.{is_free, Merges, Loads, AnswersWords, IsRefusal, IsMissing};
+ghost use Rattle.dm_top.specs.Reading.{named_of};
+ghost use Rattle.dm_top.specs.Top.{is_free, is_missing, is_refusal, is_own, FilesOrEnd, Merges, Loads};
 
 use crate::files::{NamedFile, ReadFault, read_files};
-use crate::merge::{MergeFault, merge_files};
-use crate::text::text_of;
-use crate::words::names_of;
+use crate::limits::MOST_BYTES;
+use crate::merge::merged_text;
+use crate::sources::read_sources;
 use dm_base::Shelf;
 use dm_list::Bytes;
-use dm_report::Status;
+use dm_report::{Status, Which};
 use std::alloc::Global;
 
-/// The text that `load` prints, or how it ends otherwise.
-pub fn load<F: Shelf>(alloc: Global, words: &[String], shelf: &mut F) -> Result<Bytes, Status>
-    ensures told { IfSome (F.files shelf.old) (λ files. AnswersWords files (map string_bytes words.now) result) }
-    ensures usage { (result ≡ Err Status.Usage) ↔ (names_of (map string_bytes words.now) ≡ None) }
-    ensures refusal { IfErr result IsRefusal }
-
-    ensures files { F.files shelf.new ≡ F.files shelf.old }
-    ensures read { result ≡ Err Status.ReadFault → Rose (F.faults shelf.old) (F.faults shelf.new) }
-    ensures missing { IsErrAnd result IsMissing → Rose (F.misses shelf.old) (F.misses shelf.new) }
-{
-    match names_of(words) {
-        Some(names) => load_files(alloc, names, shelf),
-        None => Err(Status::Usage),
-    }
-}
-
-/// The text that comes of the files of these names.
-fn load_files<F: Shelf>(alloc: Global, names: &[String], shelf: &mut F) -> Result<Bytes, Status>
-    ensures told { IfSome (F.files shelf.old) (λ files.
-        MatchBool (is_free result) ⊤ (Loads files (map string_bytes names.now) result)) }
+/// The files of these names, or how a command ends at the first that isn't read.
+pub fn files_or_end<F: Shelf>(
+    alloc: Global,
+    shelf: &mut F,
+    names: &[Bytes],
+) -> Result<Vec<NamedFile>, Status>
+    requires { All IsUtf8 names.now }
+    ensures told { IfSome (F.files shelf.old) (λ files. FilesOrEnd files names.now result) }
+    ensures sizes { IfOk result (λ read. All (λ f. length f.bytes.items ≤ MOST_BYTES) read.items) }
+    ensures count { IfOk result (λ read. length read.items ≡ length names.now) }
+    ensures refusal { IfErr result (λ s. IsTrue (is_refusal s)) }
     ensures usage { result ≢ Err Status.Usage }
-    ensures refusal { IfErr result IsRefusal }
-
     ensures files { F.files shelf.new ≡ F.files shelf.old }
     ensures read { result ≡ Err Status.ReadFault → Rose (F.faults shelf.old) (F.faults shelf.new) }
-    ensures missing { IsErrAnd result IsMissing → Rose (F.misses shelf.old) (F.misses shelf.new) }
+    ensures missing { IsErrAnd result (λ s. IsTrue (is_missing s)) → Rose (F.misses shelf.old) (F.misses shelf.new) }
 {
-    match read_files(alloc, shelf, names) {
-        Ok(files) => merged_text(alloc, &files),
+    match read_files(alloc, shelf, names, MOST_BYTES) {
+        Ok(files) => Ok(files),
         Err(ReadFault::Missing { name }) => Err(Status::Missing { name }),
+        Err(ReadFault::TooLong) => Err(Status::Limit {
+            which: Which::Files,
+        }),
         Err(ReadFault::Failed) => Err(Status::ReadFault),
         Err(ReadFault::Memory) => Err(Status::Memory),
     }
 }
 
-/// The text of the files' merged table.
-fn merged_text(alloc: Global, files: &[NamedFile]) -> Result<Bytes, Status>
-    ensures merges { MatchBool (is_free result) ⊤ (Merges (named_texts files.now) result) }
-    ensures refusal { IfErr result IsRefusal }
+/// What `load` prints of the files of these names, or how it ends.
+pub fn load<F: Shelf>(alloc: Global, shelf: &mut F, names: &[Bytes]) -> Result<Bytes, Status>
+    requires text { All IsUtf8 names.now }
+    requires some { 0 < length names.now }
+    ensures told { IfSome (F.files shelf.old) (λ files. MatchBool (is_free result) ⊤ (Loads files names.now result)) }
+    ensures refusal { IfErr result (λ s. IsTrue (is_refusal s)) }
     ensures usage { result ≢ Err Status.Usage }
-    ensures read { result ≢ Err Status.ReadFault }
-    ensures missing { ¬ (IsErrAnd result IsMissing) }
+    ensures files { F.files shelf.new ≡ F.files shelf.old }
+    ensures read { result ≡ Err Status.ReadFault → Rose (F.faults shelf.old) (F.faults shelf.new) }
+    ensures missing { IsErrAnd result (λ s. IsTrue (is_missing s)) → Rose (F.misses shelf.old) (F.misses shelf.new) }
 {
-    match merge_files(alloc, files) {
-        Ok(merged) => match text_of(alloc, &merged) {
-            Ok(text) => Ok(text),
-            Err(_) => Err(Status::Memory),
-        },
-        Err(MergeFault::Later { name }) => Err(Status::Later { name }),
-        Err(MergeFault::Memory) => Err(Status::Memory),
+    match files_or_end(alloc, shelf, names) {
+        Ok(files) => merged(alloc, files),
+        Err(status) => Err(status),
+    }
+}
+
+/// What is printed of these files, or how `load` ends at them.
+fn merged(alloc: Global, files: Vec<NamedFile>) -> Result<Bytes, Status>
+    requires sizes { All (λ f. length f.bytes.items ≤ MOST_BYTES) files.items }
+    requires some { 0 < length files.items }
+    ensures merges { MatchBool (is_free result) ⊤ (Merges (named_of files.items) result) }
+    ensures own { IfErr result (λ s. IsTrue (is_own s)) }
+{
+    match read_sources(alloc, files) {
+        Ok(sources) => merged_text(alloc, &sources),
+        Err(status) => Err(status),
     }
 }

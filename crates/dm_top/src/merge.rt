@@ -1,104 +1,88 @@
-ghost use Rattle.std.specs.Prelude.{◌≡◌, ◌++◌, ◌∷◌, [], List, false, IfOk, MatchBool};
-ghost use Rattle.dm_dump.specs.declared.dump.Dump.{Dump};
-ghost use Rattle.dm_top.specs.Load.{stand_together};
-ghost use Rattle.dm_top.specs.Merge.{agrees, or_its_schema, named_texts, IsMerged, MergesFile, MergesFiles};
+ghost use Rattle.std.specs.Prelude.{◌≡◌, ◌<◌, map, length, Some, None, IfOk, if◌then◌else◌};
+ghost use Rattle.dm_list.specs.Answer.{Answers};
+ghost use Rattle.dm_top.specs.Rows.{all_entries};
+ghost use Rattle.dm_top.specs.Load.{load_table, merged_over, merged_of, clash};
+ghost use Rattle.dm_top.specs.Merge.{added};
+ghost use Rattle.dm_top.specs.Sources.{said_of};
+ghost use Rattle.dm_top.specs.Top.{is_memory};
 
-use crate::files::NamedFile;
+use crate::keys::share_unique;
+use crate::limits::{MOST_ITEMS, MOST_VALUES};
 use crate::rows::add_rows;
-use dm_dump::{Dump, read_plain_dump};
-use dm_list::{Bytes, Copied};
-use dm_schema::Schema;
-use dm_value::Row;
-use std::alloc::{AllocError, AllocFailed, Global};
+use crate::sources::{Source, exceed_items, exceed_values, schemas_of};
+use crate::text::text_of;
+use dm_join::{NoJoin, join};
+use dm_list::Bytes;
+use dm_report::{Status, Which};
+use dm_schema::{Schema, TableName};
+use dm_value::{Name, Row};
+use std::alloc::{AllocError, Global};
 use std::collections::BTreeMap;
 
-/// What was merged of the dumps so far.
-#[derive(Drop)]
-pub struct Merged {
-    /// The schema of the first dump.
-    pub first: Option<Schema>,
-    /// The rows of all dumps under their primary keys, their values in byte order of the columns' names.
-    pub rows: BTreeMap<Row, Row>,
-}
-
-/// Why files weren't merged.
-#[derive(Debug, Drop)]
-pub enum MergeFault {
-    /// The file isn't a plain dump, or doesn't go with those before it.
-    Later { name: Bytes },
-    Memory,
-}
-
-impl From<AllocError> for MergeFault {
-    ghost use Rattle.dm_top.specs.declared.merge.MergeFault.TheVariants.{Memory};
-
-    ghost from_gives = { λ _ e. e ≡ Memory };
-
-    fn from(_: AllocError) -> MergeFault {
-        MergeFault::Memory
-    }
-}
-
-fn agrees(alloc: Global, first: &Option<Schema>, dump: &Dump) -> Result<bool, AllocError>
-    ensures { IfOk result (λ same. same ≡ agrees first.now dump.now) }
+/// The rows of all sources, as the join has them, under their primary keys; none where two have one key.
+fn rows_of(
+    alloc: Global,
+    joined: &Schema,
+    sources: &[Source],
+) -> Result<Option<BTreeMap<Row, Row>>, AllocError>
+    ensures { IfOk result (λ rows. option_map (λ m. m.entries) rows ≡ added [] (all_entries joined.now (said_of sources.now))) }
 {
-    match first {
-        Some(schema) => schema.equals(alloc, &dump.schema),
-        None => Ok(true),
+    let mut rows = BTreeMap::new(alloc);
+    for source in sources {
+        if !add_rows(alloc, joined, &mut rows, source)? {
+            return Ok(None);
+        }
     }
+    Ok(Some(rows))
 }
 
-fn or_its_schema(first: Option<Schema>, dump: Dump) -> Option<Schema>
-    ensures { result ≡ or_its_schema first dump }
+/// What `load`'s table is called in a fault.
+fn load_table(alloc: Global) -> Result<TableName, AllocError>
+    ensures { IfOk result (λ table. table ≡ load_table) }
 {
-    match first {
-        Some(schema) => Some(schema),
-        None => Some(dump.schema),
-    }
+    Ok(TableName {
+        db: Name::new(Vec::from_slice(alloc, b"load")?),
+        table: Name::new(Vec::from_slice(alloc, b"load")?),
+    })
 }
 
-/// Merges a further dump. `false` where it doesn't go with those before it.
-fn merge_dump(alloc: Global, merged: &mut Merged, dump: Dump) -> Result<bool, AllocError>
-    ensures { IfOk result (λ fits. (dumps : List Dump) → IsMerged dumps merged.old.first merged.old.rows.entries
-        → MatchBool fits (IsMerged (dumps ++ dump ∷ []) merged.new.first merged.new.rows.entries) (stand_together (dumps ++ dump ∷ []) ≡ false)) }
+/// The text of the sources' rows over the join of their schemas.
+fn merged_over(alloc: Global, joined: &Schema, sources: &[Source]) -> Result<Bytes, Status>
+    ensures { Answers is_memory result (merged_over (Ok joined.now) (said_of sources.now)) }
 {
-    if !agrees(alloc, &merged.first, &dump)? {
-        return Ok(false);
-    }
-    if !add_rows(alloc, &mut merged.rows, &dump)? {
-        return Ok(false);
-    }
-    merged.first = or_its_schema(merged.first.take(), dump);
-    Ok(true)
-}
-
-/// Merges a further file.
-fn merge_file(alloc: Global, merged: &mut Merged, file: &NamedFile) -> Result<(), MergeFault>
-    ensures { MergesFile (file.now.name, file.now.bytes.items) merged.old merged.new result }
-{
-    let Some(dump) = read_plain_dump(alloc, &file.bytes)? else {
-        return Err(MergeFault::Later {
-            name: file.name.copy(alloc)?,
-        });
+    let Some(rows) = rows_of(alloc, joined, sources)? else {
+        return Err(Status::Unlawful);
     };
-    if !merge_dump(alloc, merged, dump)? {
-        return Err(MergeFault::Later {
-            name: file.name.copy(alloc)?,
+    if share_unique(alloc, joined, &rows)? {
+        return Err(Status::Unlawful);
+    }
+    Ok(text_of(alloc, joined, &rows)?)
+}
+
+/// The text of dumps that are merged, or how it ends: too many rows, too many values, schemas without a join, rows
+/// with one key.
+pub fn merged_text(alloc: Global, sources: &[Source]) -> Result<Bytes, Status>
+    requires { 0 < length sources.now }
+    ensures { Answers is_memory result (merged_of (said_of sources.now)) }
+{
+    if exceed_items(sources, MOST_ITEMS) {
+        return Err(Status::Limit {
+            which: Which::Items,
         });
     }
-    Ok(())
-}
-
-/// Merges files, one after another.
-pub fn merge_files(alloc: Global, files: &[NamedFile]) -> Result<Merged, MergeFault>
-    ensures { MergesFiles (named_texts files.now) result }
-{
-    let mut merged = Merged {
-        first: None,
-        rows: BTreeMap::new(alloc),
-    };
-    for file in files {
-        merge_file(alloc, &mut merged, file)?;
+    if exceed_values(sources, MOST_VALUES) {
+        return Err(Status::Limit {
+            which: Which::Values,
+        });
     }
-    Ok(merged)
+    let schemas = schemas_of(alloc, sources)?;
+    match join(alloc, &schemas) {
+        Ok(joined) => merged_over(alloc, &joined, sources),
+        Err(NoJoin::At { column, cause }) => Err(Status::First {
+            table: load_table(alloc)?,
+            column,
+            cause,
+        }),
+        Err(NoJoin::Memory) => Err(Status::Memory),
+    }
 }

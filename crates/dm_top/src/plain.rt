@@ -1,18 +1,19 @@
-ghost use Rattle.std.specs.Prelude.{◌≡◌, Err, map, string_bytes, IsErrAnd};
+ghost use Rattle.std.specs.Prelude.{◌≡◌, ◌≢◌, ⊤, Err, map, string_bytes, IfSome, IfErr, IsErrAnd, MatchBool, IsTrue};
 ghost use Rattle.std.specs.Result.{ForErr};
 ghost use Rattle.dm_base.specs.Outside.{Rose};
-ghost use Rattle.dm_top.specs.Top.{Runs, Ends, IsRefusal, IsMissing};
+ghost use Rattle.dm_words.specs.Words.{order_of};
+ghost use Rattle.dm_top.specs.Top.{is_free, is_known, is_missing, is_refusal, AnswersWords, Ends, Runs};
 
+use crate::check::check_task;
 use crate::load::load;
 use dm_base::{Journal, Shelf, Sink};
 use dm_list::Bytes;
 use dm_report::{Status, fault_line};
+use dm_words::{Order, WordFault, read_words};
 use std::alloc::Global;
 
-/// Does what the program does with these words, for the commands that wait for nobody: `load` and the names of dumps.
-/// `words` are without the program's name.
-///
-/// The output is put in one piece: the text, or one fault line. The journal isn't used.
+/// All that the program does for commands that wait for nobody: `load` and `check-task`. It answers how the command ended,
+/// and hands back the journal.
 pub fn dm_plain<F: Shelf, J: Journal, S: Sink>(
     alloc: Global,
     words: &[String],
@@ -24,21 +25,38 @@ pub fn dm_plain<F: Shelf, J: Journal, S: Sink>(
     ensures journal { result.1 ≡ journal }
 
     ensures read { result.0 ≡ Status.ReadFault → Rose (F.faults shelf.old) (F.faults shelf.new) }
-    ensures missing { IsMissing result.0 → Rose (F.misses shelf.old) (F.misses shelf.new) }
+    ensures missing { IsTrue (is_missing result.0) → Rose (F.misses shelf.old) (F.misses shelf.new) }
     ensures write { result.0 ≡ Status.WriteFault → Rose (S.faults out.old) (S.faults out.new) }
     ensures files { F.files shelf.new ≡ F.files shelf.old }
 {
-    let answer = load(alloc, words, shelf);
+    let answer = answer(alloc, words, shelf);
     let status = finish(alloc, answer, out);
     (status, journal)
 }
 
-/// Puts what is to be put of an answer, and says how the command ended.
+/// What a command prints, or how it ends, before anything is put.
+fn answer<F: Shelf>(alloc: Global, words: &[String], shelf: &mut F) -> Result<Bytes, Status>
+    ensures told { IfSome (F.files shelf.old) (λ files. AnswersWords files (map string_bytes words.now) result) }
+    ensures usage { MatchBool (is_known (order_of (map string_bytes words.now))) (result ≢ Err Status.Usage) (MatchBool (is_free result) ⊤ (result ≡ Err Status.Usage)) }
+    ensures refusal { IfErr result (λ s. IsTrue (is_refusal s)) }
+
+    ensures files { F.files shelf.new ≡ F.files shelf.old }
+    ensures read { result ≡ Err Status.ReadFault → Rose (F.faults shelf.old) (F.faults shelf.new) }
+    ensures missing { IsErrAnd result (λ s. IsTrue (is_missing s)) → Rose (F.misses shelf.old) (F.misses shelf.new) }
+{
+    match read_words(alloc, words) {
+        Ok(Order::Load { files }) => load(alloc, shelf, files.as_slice()),
+        Ok(Order::CheckTask { file }) => check_task(alloc, shelf, file),
+        Ok(_) | Err(WordFault::Usage) => Err(Status::Usage),
+        Err(WordFault::Memory) => Err(Status::Memory),
+    }
+}
+
 fn finish<S: Sink>(alloc: Global, answer: Result<Bytes, Status>, out: &mut S) -> Status
-    requires { ForErr answer IsRefusal }
+    requires { ForErr answer (λ s. IsTrue (is_refusal s)) }
     ensures put { Ends answer result (S.taken out.old) (S.taken out.new) }
     ensures read { result ≡ Status.ReadFault → answer ≡ Err Status.ReadFault }
-    ensures missing { IsMissing result → IsErrAnd answer IsMissing }
+    ensures missing { IsTrue (is_missing result) → IsErrAnd answer (λ s. IsTrue (is_missing s)) }
     ensures write { result ≡ Status.WriteFault → Rose (S.faults out.old) (S.faults out.new) }
 {
     match answer {
@@ -50,12 +68,11 @@ fn finish<S: Sink>(alloc: Global, answer: Result<Bytes, Status>, out: &mut S) ->
     }
 }
 
-/// Puts the fault line of a refusal.
 fn put_fault<S: Sink>(alloc: Global, status: Status, out: &mut S) -> Status
-    requires { IsRefusal status }
+    requires { IsTrue (is_refusal status) }
     ensures put { Ends (Err status) result (S.taken out.old) (S.taken out.new) }
     ensures read { result ≡ Status.ReadFault → status ≡ Status.ReadFault }
-    ensures missing { IsMissing result → IsMissing status }
+    ensures missing { IsTrue (is_missing result) → IsTrue (is_missing status) }
     ensures write { result ≡ Status.WriteFault → Rose (S.faults out.old) (S.faults out.new) }
 {
     if let Status::Memory = status {

@@ -1,8 +1,6 @@
-use Rattle.std.proofs.Common.{◌≡◌, ◌≤◌, drop, map, string_bytes, IfSome}
-use Rattle.dm_top.specs.Load.{texts_of}
-use Rattle.dm_top.specs.Merge.{named_texts}
-use Rattle.dm_top.specs.Reading.{fronts}
-use Rattle.dm_top.proofs.Fronts.{with_front}
+use Rattle.std.proofs.Common.{◌≡◌, ◌≤◌, length, drop, All, IfSome}
+use Rattle.dm_top.specs.Reading.{named_of, files_of}
+use Rattle.dm_top.proofs.Reading.{with_front}
 use Rattle.dm_top.proofs.files.read_files.Given as goal
 
 -- the files so far and those to come are all; nothing of the shelf falls or changes but its counts
@@ -10,7 +8,10 @@ abbrev pub invariant-loop-name : goal.invariant-loop-name
 invariant-loop-name g l =
     let shelf = g.F.Shelf in
     record {
-      told : IfSome (shelf.files l.fn.shelf) (λ files. with_front (named_texts l.files.items) (texts_of (fronts files) (map string_bytes (drop l.name-index l.names))) ≡ texts_of (fronts files) (map string_bytes l.names));
+      told : IfSome (shelf.files l.fn.shelf) (λ files. with_front (named_of l.files.items) (files_of files l.room (drop l.name-index l.names)) ≡ files_of files l.most l.names);
+      room : l.room ≤ l.most;
+      sizes : All (λ f. length f.bytes.items ≤ l.most) l.files.items;
+      count : length l.files.items ≡ l.name-index;
       files : shelf.files l.shelf ≡ shelf.files l.fn.shelf;
       faults : shelf.faults l.fn.shelf ≤ shelf.faults l.shelf;
       misses : shelf.misses l.fn.shelf ≤ shelf.misses l.shelf;

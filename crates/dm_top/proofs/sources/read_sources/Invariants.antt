@@ -1,0 +1,7 @@
+use Rattle.dm_top.specs.Reading.{named_of}
+use Rattle.dm_top.specs.Sources.{said_of}
+use Rattle.dm_top.proofs.Gathering.{SoFar}
+use Rattle.dm_top.proofs.sources.read_sources.Given as goal
+
+abbrev pub invariant-loop-file : goal.invariant-loop-file
+invariant-loop-file l = SoFar (named_of l.files.items) (named_of l.file-iterator) (said_of l.sources.items)

@@ -1,0 +1,65 @@
+ghost use Rattle.std.specs.Prelude.{◌≡◌, ◌∷◌, [], map, Some, None, IfOk, if◌then◌else◌};
+ghost use Rattle.std.specs.List.{list_any};
+ghost use Rattle.std.specs.BTreeMap.{values};
+ghost use Rattle.dm_schema.specs.Names.{repeats};
+ghost use Rattle.dm_top.specs.Load.{is_null, values_under, same_row};
+ghost use Rattle.dm_top.specs.Merge.{added};
+
+use dm_schema::{Schema, UniqueKey, values_at};
+use dm_value::{Row, Value};
+use std::alloc::{AllocError, Global};
+use std::collections::BTreeMap;
+
+/// Whether two rows have the same values under some unique key; a NULL among them makes them equal to none.
+pub fn share_unique(
+    alloc: Global,
+    joined: &Schema,
+    rows: &BTreeMap<Row, Row>,
+) -> Result<bool, AllocError>
+    ensures { IfOk result (λ shared. shared ≡ list_any (λ key. repeats same_row (values_under joined.now (values rows.now) key)) joined.now.uniques) }
+{
+    for key in joined.uniques() {
+        if repeat_under(alloc, joined, rows, key)? {
+            return Ok(true);
+        }
+    }
+    Ok(false)
+}
+
+fn has_null(values: &[Value]) -> bool
+    ensures { result ≡ list_any is_null values.now }
+{
+    values.iter().any(|value| matches!(value, Value::Null))
+}
+
+/// Whether two rows have the same values under a key.
+fn repeat_under(
+    alloc: Global,
+    joined: &Schema,
+    rows: &BTreeMap<Row, Row>,
+    key: &UniqueKey,
+) -> Result<bool, AllocError>
+    ensures { IfOk result (λ repeated. repeated ≡ repeats same_row (values_under joined.now (values rows.now) key.now)) }
+{
+    let mut seen = BTreeMap::new(alloc);
+    for row in rows.values() {
+        let values = values_at(
+            alloc,
+            joined.columns(),
+            row.as_slice(),
+            key.columns.as_slice(),
+        )?;
+        if !has_null(&values) && !see(&mut seen, Row::new(values))? {
+            return Ok(true);
+        }
+    }
+    Ok(false)
+}
+
+/// Notes values; whether they weren't there yet.
+fn see(seen: &mut BTreeMap<Row, ()>, values: Row) -> Result<bool, AllocError>
+    ensures { IfOk result (λ new. added seen.old.entries ((values, tt) ∷ []) ≡ (if new then Some seen.new.entries else None)) }
+{
+    let before = seen.insert(values, ())?;
+    Ok(before.is_none())
+}
