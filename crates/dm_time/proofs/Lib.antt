@@ -1,7 +1,9 @@
 pub mod Calendar
 pub mod Decimals
+pub mod DatesAt
 pub mod Epoch
 pub mod Laws
 pub mod OneText
 pub mod Shapes
+pub mod StampTexts
 pub mod Written

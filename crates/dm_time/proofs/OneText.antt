@@ -32,12 +32,12 @@ month_before year month later some before =
     subst (λ (n : ℕ). days_before_month year month + days_in_month year month ≤ days_before_month year n) e (omega arith)
 
 -- a day of the calendar
-record IsDay (year month day : ℕ) : Type 0 where
-  from : 1 ≤ year
-  first : 1 ≤ month
-  last : month ≤ 12
-  some : 1 ≤ day
-  most : day ≤ days_in_month year month
+pub record IsDay (year month day : ℕ) : Type 0 where
+  pub from : 1 ≤ year
+  pub first : 1 ≤ month
+  pub last : month ≤ 12
+  pub some : 1 ≤ day
+  pub most : day ≤ days_in_month year month
 
 in_year : (y m d : ℕ) → IsDay y m d → days_before_year y + days_before_month y m + (d - 1) < days_before_year (y + 1)
 in_year y m d is = omega (arith, year_length y is.from, month_before y m 13 is.first (omega (arith, is.last)), is.most, is.some)
@@ -51,7 +51,7 @@ no_earlier_year y m d z n e is before same = omega (arith, in_year y m d is, yea
 no_earlier_month : (y m d n e : ℕ) → IsDay y m d → m < n → days_before_year y + days_before_month y m + (d - 1) ≡ days_before_year y + days_before_month y n + (e - 1) → ⊥
 no_earlier_month y m d n e is before same = omega (arith, month_before y m n is.first before, is.most, is.some)
 
-is_day : (d : Day) → 1 ≤ d.year → is_date d ≡ true → IsDay d.year d.month d.day
+pub is_day : (d : Day) → 1 ≤ d.year → is_date d ≡ true → IsDay d.year d.month d.day
 is_day d from is = parts d.year d.month d.day (days_in_month d.year d.month) refl from is where
   parts : (y m day length : ℕ) → days_in_month y m ≡ length → 1 ≤ y → (is_between 1 12 m && is_between 1 length day) ≡ true → IsDay y m day
   parts y m day length long from is =
@@ -65,7 +65,7 @@ is_day d from is = parts d.year d.month d.day (days_in_month d.year d.month) ref
         most = omega (arith, long);
       }
 
-same_day : (y m d z n e : ℕ) → IsDay y m d → IsDay z n e → days_before_year y + days_before_month y m + (d - 1) ≡ days_before_year z + days_before_month z n + (e - 1) → (y ≡ z) × (m ≡ n) × (d ≡ e)
+pub same_day : (y m d z n e : ℕ) → IsDay y m d → IsDay z n e → days_before_year y + days_before_month y m + (d - 1) ≡ days_before_year z + days_before_month z n + (e - 1) → (y ≡ z) × (m ≡ n) × (d ≡ e)
 same_day y m d z n e isy isz same =
     let not_before : y < z → ⊥ = λ before. no_earlier_year y m d z n e isy before same in
     let not_behind : z < y → ⊥ = λ before. no_earlier_year z n e y m d isz before (sym same) in

@@ -2,6 +2,8 @@
 use Rattle.std.specs.Prelude.{ℕ, zero, suc, ◌+◌, ◌-◌, ◌/◌, ◌%◌, ◌^◌, ◌==◌, List, [], ◌∷◌, ◌++◌, codes, if◌then◌else◌}
 use Rattle.dm_value.specs.declared.value.Day.{Day}
 use Rattle.dm_value.specs.declared.value.Moment.{Moment}
+use Rattle.dm_value.specs.declared.value.Stamp.{Stamp}
+use Rattle.dm_time.specs.Civil.{moment_in_utc}
 
 -- the last so many digits of a number in base ten, zeros in front
 abbrev pub digits_of : ℕ → ℕ → List ℕ
@@ -20,3 +22,7 @@ fraction_text digits micros = if digits == 0 then [] else codes "." ++ digits_of
 
 abbrev pub moment_text : ℕ → Moment → List ℕ
 moment_text digits m = day_text m.day ++ codes " " ++ time_text m ++ fraction_text digits m.micros
+
+-- a TIMESTAMP in UTC, with so many digits of the fraction
+abbrev pub stamp_text : ℕ → Stamp → List ℕ
+stamp_text digits s = moment_text digits (moment_in_utc s)

@@ -21,9 +21,9 @@ pub fn days_since_epoch(day: Day) -> Option<u32>
     }
 }
 
-/// The date so many days after 1970-01-01.
+/// The date so many days after 1970-01-01, as far as 32 bits count its seconds.
 pub fn date_after_epoch(days: u32) -> Day
-    requires { days ≤ 2932896 }
+    requires { days ≤ 49710 }
     ensures date { IsTrue (is_date result) }
     ensures days { days_before result ≡ days_before epoch + days }
     ensures from_1970 { 1970 ≤ result.year }

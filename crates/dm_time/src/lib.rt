@@ -10,4 +10,4 @@ mod tests;
 mod writing;
 
 pub use reading::{day_of_text, moment_of_text, stamp_of_text};
-pub use writing::text_of_stamp;
+pub use writing::{push_day, push_moment, push_stamp, text_of_stamp};

@@ -1,7 +1,6 @@
-ghost use Rattle.std.specs.Prelude.{◌≡◌, ◌≤◌, ◌&&◌, Some, IsTrue, if◌then◌else◌};
+ghost use Rattle.std.specs.Prelude.{◌≡◌, ◌&&◌, Some, if◌then◌else◌};
 ghost use Rattle.dm_schema.specs.Kinds.{is_between};
-ghost use Rattle.dm_schema.specs.Fits.{fits_stamp, fits_moment};
-ghost use Rattle.dm_time.specs.Civil.{is_civil, seconds_of};
+ghost use Rattle.dm_time.specs.Civil.{is_civil, seconds_of, zero_moment, civil_moment, moment_in_utc};
 ghost use Rattle.dm_time.specs.Texts.{is_zero_moment, is_stamp_moment, stamp_at};
 
 use crate::days::{date_after_epoch, days_since_epoch};
@@ -62,12 +61,9 @@ fn seconds_since_epoch(moment: Moment) -> Option<u64>
     Some(u64::from(SECONDS_OF_DAY) * u64::from(days) + second_of_day)
 }
 
-/// The moment in UTC of a TIMESTAMP.
-pub fn moment_of_stamp(stamp: Stamp, digits: u8) -> Moment
-    requires few { digits ≤ 6 }
-    requires fits { IsTrue (fits_stamp digits stamp) }
-    ensures stamp { stamp_at result ≡ Some stamp }
-    ensures fits { IsTrue (fits_moment digits result) }
+/// The moment in UTC of a TIMESTAMP. Seconds 0 stand for the zero moment, whatever the microseconds.
+pub fn moment_in_utc(stamp: Stamp) -> Moment
+    ensures { result ≡ moment_in_utc stamp }
 {
     if stamp.seconds == 0 {
         zero_moment()
@@ -77,7 +73,7 @@ pub fn moment_of_stamp(stamp: Stamp, digits: u8) -> Moment
 }
 
 fn zero_moment() -> Moment
-    ensures { result ≡ record { day = record { year = 0; month = 0; day = 0 }; hour = 0; minute = 0; second = 0; micros = 0 } }
+    ensures { result ≡ zero_moment }
 {
     Moment {
         day: Day {
@@ -93,12 +89,7 @@ fn zero_moment() -> Moment
 }
 
 fn civil_moment(seconds: u32, micros: u32) -> Moment
-    requires some { 1 ≤ seconds }
-    requires most { seconds ≤ 2147483647 }
-    ensures civil { IsTrue (is_stamp_moment result) }
-    ensures seconds { seconds_of result ≡ seconds }
-    ensures micros { result.micros ≡ micros }
-    ensures year { result.day.year ≤ 9999 }
+    ensures { result ≡ civil_moment seconds micros }
 {
     let second_of_day = seconds % SECONDS_OF_DAY;
     Moment {

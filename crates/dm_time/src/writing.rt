@@ -1,9 +1,9 @@
 ghost use Rattle.std.specs.Prelude.{◌≡◌, ◌++◌, ◌≤◌, IfOk, OnOk, IsTrue};
 ghost use Rattle.dm_schema.specs.Fits.{fits_stamp};
 ghost use Rattle.dm_time.specs.Texts.{IsTextOf};
-ghost use Rattle.dm_time.specs.Written.{digits_of, day_text, time_text, fraction_text, moment_text};
+ghost use Rattle.dm_time.specs.Written.{digits_of, day_text, time_text, fraction_text, moment_text, stamp_text};
 
-use crate::stamps::moment_of_stamp;
+use crate::stamps::moment_in_utc;
 use dm_list::Bytes;
 use dm_value::{Day, Moment, Stamp};
 use std::alloc::{AllocError, Global};
@@ -14,23 +14,32 @@ pub fn text_of_stamp(alloc: Global, stamp: &Stamp, digits: u8) -> Result<Bytes, 
     requires fits { IsTrue (fits_stamp digits stamp.now) }
     ensures { IfOk result (IsTextOf stamp.now digits) }
 {
-    let text = text_of_moment(alloc, moment_of_stamp(*stamp, digits), digits)?;
+    let mut text = Vec::new(alloc);
+    push_stamp(&mut text, *stamp, digits)?;
     Ok(Bytes::new(text))
 }
 
-fn text_of_moment(alloc: Global, moment: Moment, digits: u8) -> Result<Vec<u8>, AllocError>
-    requires { digits ≤ 6 }
-    ensures { IfOk result (λ text. text.items ≡ moment_text digits moment) }
+/// Adds the text of a TIMESTAMP in UTC, with so many digits of the fraction. Seconds 0 stand for
+/// `0000-00-00 00:00:00`, whatever the microseconds.
+pub fn push_stamp(text: &mut Vec<u8>, stamp: Stamp, digits: u8) -> Result<(), AllocError>
+    ensures { OnOk result (text.new.items ≡ text.old.items ++ stamp_text digits stamp) }
 {
-    let mut text = Vec::new(alloc);
-    push_day(&mut text, moment.day)?;
-    text.push(b' ')?;
-    push_time(&mut text, moment)?;
-    push_fraction(&mut text, moment.micros, digits)?;
-    Ok(text)
+    push_moment(text, moment_in_utc(stamp), digits)
 }
 
-fn push_day(text: &mut Vec<u8>, day: Day) -> Result<(), AllocError>
+/// Adds the text of a moment, with so many digits of the fraction.
+pub fn push_moment(text: &mut Vec<u8>, moment: Moment, digits: u8) -> Result<(), AllocError>
+    ensures { OnOk result (text.new.items ≡ text.old.items ++ moment_text digits moment) }
+{
+    push_day(text, moment.day)?;
+    text.push(b' ')?;
+    push_time(text, moment)?;
+    push_fraction(text, moment.micros, digits)?;
+    Ok(())
+}
+
+/// Adds the text of a day: four digits of the year, two of the month and two of the day.
+pub fn push_day(text: &mut Vec<u8>, day: Day) -> Result<(), AllocError>
     ensures { OnOk result (text.new.items ≡ text.old.items ++ day_text day) }
 {
     push_number(text, u32::from(day.year), 4)?;
@@ -51,14 +60,14 @@ fn push_time(text: &mut Vec<u8>, moment: Moment) -> Result<(), AllocError>
 }
 
 fn push_fraction(text: &mut Vec<u8>, micros: u32, digits: u8) -> Result<(), AllocError>
-    requires { digits ≤ 6 }
     ensures { OnOk result (text.new.items ≡ text.old.items ++ fraction_text digits micros) }
 {
     if digits == 0 {
         return Ok(());
     }
     text.push(b'.')?;
-    push_number(text, micros / 10_u32.pow(6 - u32::from(digits)), digits)
+    let left_out = 6_u32.saturating_sub(u32::from(digits));
+    push_number(text, micros / 10_u32.pow(left_out), digits)
 }
 
 /// Writes the last so many digits of a number.
