@@ -1,2 +1,4 @@
+pub mod Faults
+pub mod Puts
 pub mod Rules
 pub mod Walked

@@ -3,6 +3,7 @@ use Rattle.std.proofs.Common.{◌≡◌, ℕ, zero, suc, ◌+◌, ◌==◌, Bool
 use Rattle.std.proofs.lemmas.Bool.{eqb-true}
 use Rattle.std.proofs.lemmas.Str.{is_utf8-from_IsUtf8}
 use Rattle.std.specs.Prelude.{encode_utf8_all}
+use Rattle.std.specs.Char.{encode_utf8}
 use lib.Utf8.{scalars}
 use Rattle.std.proofs.lemmas.Slice.Eq.{bytes_eq-Decides}
 use Rattle.std.specs.Option.{option_and_then, option_map}
@@ -39,20 +40,20 @@ pub data Met : Type 0 where
   a_name : Text → Met
   an_option : Text → Text → Met
 
-abbrev pending_of : Met → Option (Text × List Text)
+abbrev pub pending_of : Met → Option (Text × List Text)
 pending_of nothing = None
 pending_of (a_name name) = Some (codes "names", name ∷ [])
 pending_of (an_option name value) = Some (name, value ∷ [])
 
-abbrev held_with : Met → List Row → Held
+abbrev pub held_with : Met → List Row → Held
 held_with met rows = record { rows = rows; pending = pending_of met; skip = 0 }
 
-abbrev settle : List Text → Met → List Row → Option (List Row)
+abbrev pub settle : List Text → Met → List Row → Option (List Row)
 settle known nothing rows = Some rows
 settle known (a_name name) rows = put known (named name) rows
 settle known (an_option name value) rows = put known (given name value) rows
 
-abbrev IsKnown : List Text → Met → Type 0
+abbrev pub IsKnown : List Text → Met → Type 0
 IsKnown known nothing = Unit {0}
 IsKnown known (a_name name) = Unit {0}
 IsKnown known (an_option name value) = is_among name known ≡ true
@@ -75,11 +76,11 @@ refused : (c : List Rule) (w : Walk) (word : Text) (words : List Text) (fault : 
 refused c w word words fault f some = ap (λ k. cond (is_clean k) (outcome c (walked c [] w word) words) None) f ∙ ap (λ b. cond b (outcome c (walked c [] w word) words) None) some
 
 -- where nothing waits for a value
-abbrev ready : Bool → Met → List Row → Walk
+abbrev pub ready : Bool → Met → List Row → Walk
 ready behind_name met rows = record { held = held_with met rows; waiting = cond behind_name positional idle; position = 1; is_trailing = false; stopped = None }
 
 -- where an option waits
-abbrev wanting : Text → List Row → Walk
+abbrev pub wanting : Text → List Row → Walk
 wanting name rows = record { held = record { rows = rows; pending = Some (name, []); skip = 0 }; waiting = option name; position = 1; is_trailing = false; stopped = None }
 
 -- behind `--`
@@ -92,7 +93,7 @@ or_nothing : (kinds : Kinds) → or_else kinds [] ≡ kinds
 or_nothing [] = refl
 or_nothing (k ∷ kinds) = refl
 
-no_and : (b : Bool) → (b && false) ≡ false
+pub no_and : (b : Bool) → (b && false) ≡ false
 no_and true = refl
 no_and false = refl
 
@@ -205,11 +206,11 @@ unknown_ready known c false met rows word name value words r e l k = refused c (
 
 -- a character stands at the front of what follows a dash
 has_front : (flags : Text) → 0 < length flags → IsUtf8 (45 ∷ flags) → (x : ℕ) × (slice_get (chars flags) 0 ≡ Some x)
-unfolding chars is_utf8
+unfolding chars is_utf8 encode_utf8
 has_front [] some text = absurd (omega arith)
 has_front (f ∷ flags) some text = by (chars (f ∷ flags)) (is_utf8-from_IsUtf8 (45 ∷ f ∷ flags) text) where
   by : (cs : List ℕ) → (scalars (45 ∷ cs) && bytes_eq (encode_utf8_all (45 ∷ cs)) (45 ∷ f ∷ flags)) ≡ true → (x : ℕ) × (slice_get cs 0 ≡ Some x)
-  by [] h = ?
+  by [] h = cc
   by (x ∷ cs) h = (x, refl)
 
 flags_refused : (known : List Text) (c : List Rule) (flags : Text) (rows : Held) → IsRules known c → 0 < length flags → IsUtf8 (45 ∷ flags) → flags_fault c false (length flags) flags 0 rows ≡ kind.UnknownArgument ∷ []
@@ -273,7 +274,7 @@ nothing_after : {A B : Type 0} (o : Option A) → option_and_then (λ x. let non
 nothing_after None = refl
 nothing_after (Some x) = refl
 
-abbrev put_each : List Text → Option (List Part) → List Row → Option (List Row)
+abbrev pub put_each : List Text → Option (List Part) → List Row → Option (List Row)
 put_each known parts rows = option_and_then (λ ps. put_all known ps rows) parts
 
 before_put : (known : List Text) (part : Part) (parts : Option (List Part)) (rows : List Row) → put_each known (before part parts) rows ≡ option_and_then (put_each known parts) (put known part rows)
@@ -297,10 +298,10 @@ unknown_waits known name (word ∷ words) rows u = by (is_dashed word) where
   by true = refl
   by false = before_put known (given name word) (parts_of None words) rows ∙ rw u refl
 
-abbrev FromReady : List Text → List Rule → List Text → Type 0
+abbrev pub FromReady : List Text → List Rule → List Text → Type 0
 FromReady known c words = (behind_name : Bool) (met : Met) (rows : List Row) → IsKnown known met → outcome c (ready behind_name met rows) words ≡ option_and_then (put_each known (parts_of None words)) (settle known met rows)
 
-abbrev FromWanting : List Text → List Rule → List Text → Type 0
+abbrev pub FromWanting : List Text → List Rule → List Text → Type 0
 FromWanting known c words = (name : Text) (rows : List Row) → is_among name known ≡ true → outcome c (wanting name rows) words ≡ put_each known (parts_of (Some name) words) rows
 
 put_given : (known : List Text) (name value : Text) (parts : Option (List Part)) (rows : List Row) → is_among name known ≡ true
@@ -368,7 +369,7 @@ wanting_word known c name rows word words r k u further (short flags is some e d
 wanting_word known c name rows word words r k u further (plain e d l s) =
     rw d (plain_wanting known c name rows word words r k e l s ∙ further false (an_option name word) rows k ∙ sym (before_put known (given name word) (parts_of None words) rows))
 
-walks : (known : List Text) (c : List Rule) (words : List Text) → IsRules known c → All IsUtf8 words → FromReady known c words × FromWanting known c words
+pub walks : (known : List Text) (c : List Rule) (words : List Text) → IsRules known c → All IsUtf8 words → FromReady known c words × FromWanting known c words
 walks known c [] r u = (
   (λ behind_name met rows k. settling known c met rows (λ rs. Some rs) r k),
   (λ name rows k. ap (λ b. cond b (Some (settled_rows c (Some (name, [])) rows)) None) (unsettled known c name rows r k)),
