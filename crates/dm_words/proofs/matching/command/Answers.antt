@@ -2,8 +2,6 @@ use Rattle.std.proofs.Common.{rules, ◌≡◌}
 use Rattle.clap.specs.Words.{rule_of}
 use Rattle.dm_words.specs.Commands.{option_rule}
 use Rattle.dm_words.proofs.Rules.{more_options}
-use Rattle.dm_words.proofs.Faults.{parse_told}
-use Rattle.dm_words.proofs.Puts.{same_text}
 use Rattle.dm_words.proofs.matching.command.Goals as goal
 
 pub loop-name-preserved : goal.loop-name-preserved
