@@ -1,0 +1,5 @@
+pub mod Faults
+pub mod Puts
+pub mod Read
+pub mod Rules
+pub mod Walked

@@ -1,0 +1,134 @@
+ghost use Rattle.std.specs.Prelude.{◌≡◌, map, IfOk, ok_or};
+ghost use Rattle.std.specs.String.{string_bytes};
+ghost use Rattle.std.specs.Str.{IsUtf8};
+ghost use Rattle.std.specs.List.{All};
+ghost use Rattle.clap.specs.Words.{found_of, first_value};
+ghost use Rattle.dm_list.specs.Answer.{Answers};
+ghost use Rattle.dm_words.specs.Words.{order_of, load_of, check_task_of, run_of, show_of, gen_of, optional_number, files_of, is_memory};
+
+use crate::matching::{matched_names, matches};
+use crate::numbers::number_in;
+use crate::{Order, WordFault};
+use clap::ArgMatches;
+use dm_list::{Bytes, Sequence};
+use std::alloc::{AllocError, Global};
+
+/// Reads the words behind the program's name.
+pub fn read_words(alloc: Global, words: &[String]) -> Result<Order, WordFault>
+    ensures order { Answers is_memory result (ok_or (order_of (map string_bytes words.now)) WordFault.Usage) }
+    ensures text { IfOk result (λ order. All IsUtf8 (files_of order)) }
+{
+    let [command, words @ ..] = words else {
+        return Err(WordFault::Usage);
+    };
+    match command.as_str() {
+        "load" => load(alloc, words),
+        "check-task" => check_task(alloc, words),
+        "run" => run(alloc, words),
+        "show" => show(alloc, words),
+        "gen" => generate(alloc, words),
+        _ => Err(WordFault::Usage),
+    }
+}
+
+fn load(alloc: Global, words: &[String]) -> Result<Order, WordFault>
+    ensures { Answers is_memory result (ok_or (load_of (map string_bytes words.now)) WordFault.Usage) }
+{
+    let matches = matches(alloc, &[], words)?;
+    let names = matched_names(&matches);
+    if names.is_empty() || names.len() > 64 {
+        return Err(WordFault::Usage);
+    }
+    Ok(Order::Load {
+        files: all_bytes(alloc, names)?,
+    })
+}
+
+fn check_task(alloc: Global, words: &[String]) -> Result<Order, WordFault>
+    ensures { Answers is_memory result (ok_or (check_task_of (map string_bytes words.now)) WordFault.Usage) }
+{
+    let matches = matches(alloc, &[], words)?;
+    let [name] = matched_names(&matches) else {
+        return Err(WordFault::Usage);
+    };
+    Ok(Order::CheckTask {
+        file: bytes(alloc, name)?,
+    })
+}
+
+fn run(alloc: Global, words: &[String]) -> Result<Order, WordFault>
+    ensures { Answers is_memory result (ok_or (run_of (map string_bytes words.now)) WordFault.Usage) }
+{
+    let matches = matches(alloc, &["limit", "workers", "stop-after"], words)?;
+    let [name] = matched_names(&matches) else {
+        return Err(WordFault::Usage);
+    };
+    let limit = number(&matches, "limit", 0, u32::MAX)?;
+    let workers = number(&matches, "workers", 1, 32)?;
+    let stop_after = number(&matches, "stop-after", 1, u32::MAX)?;
+    Ok(Order::Run {
+        file: bytes(alloc, name)?,
+        limit,
+        workers,
+        stop_after,
+    })
+}
+
+fn show(alloc: Global, words: &[String]) -> Result<Order, WordFault>
+    ensures { Answers is_memory result (ok_or (show_of (map string_bytes words.now)) WordFault.Usage) }
+{
+    let matches = matches(alloc, &[], words)?;
+    if matched_names(&matches).is_empty() {
+        Ok(Order::Show)
+    } else {
+        Err(WordFault::Usage)
+    }
+}
+
+fn generate(alloc: Global, words: &[String]) -> Result<Order, WordFault>
+    ensures { Answers is_memory result (ok_or (gen_of (map string_bytes words.now)) WordFault.Usage) }
+{
+    let matches = matches(alloc, &["workers"], words)?;
+    let [name] = matched_names(&matches) else {
+        return Err(WordFault::Usage);
+    };
+    let Some(number_) = number_in(0, u32::MAX, name.as_bytes()) else {
+        return Err(WordFault::Usage);
+    };
+    let workers = number(&matches, "workers", 1, 32)?;
+    Ok(Order::Gen { number: number_, workers })
+}
+
+/// The number that is given for an option, if one is.
+fn number(
+    matches: &ArgMatches<'_>,
+    option: &str,
+    least: u32,
+    most: u32,
+) -> Result<Option<u32>, WordFault>
+    ensures { result ≡ ok_or (optional_number least most (first_value (found_of matches.now) option.now)) WordFault.Usage }
+{
+    match matches.get_str(option) {
+        None => Ok(None),
+        Some(text) => match number_in(least, most, text.as_bytes()) {
+            Some(number) => Ok(Some(number)),
+            None => Err(WordFault::Usage),
+        },
+    }
+}
+
+fn bytes(alloc: Global, text: &str) -> Result<Bytes, AllocError>
+    ensures { IfOk result (λ bytes. bytes ≡ text.now) }
+{
+    Ok(Sequence::new(text.as_bytes().to_vec(alloc)?))
+}
+
+fn all_bytes(alloc: Global, texts: &[&str]) -> Result<Sequence<Bytes>, AllocError>
+    ensures { IfOk result (λ files. files ≡ map (λ text. text.now) texts.now) }
+{
+    let mut files = Vec::with_capacity(alloc, texts.len())?;
+    for text in texts {
+        files.push(bytes(alloc, text)?)?;
+    }
+    Ok(Sequence::new(files))
+}
