@@ -3,7 +3,7 @@ use Rattle.std.specs.Prelude.{ℕ, List, [], ◌∷◌, ◌++◌, length, codes}
 use Rattle.std.specs.List.{flat_map}
 use Rattle.std.specs.Fmt.{decimal}
 use Rattle.dm_task.specs.declared.task.Task.{Task}
-use Rattle.dm_task.specs.declared.shards.Shard.{Shard}
+use Rattle.dm_task.specs.declared.task.Shard.{Shard}
 use Rattle.dm_task.specs.Shards.{shards_of, targets_of}
 use Rattle.dm_text.specs.Names.{table_name_text}
 use Rattle.dm_report.specs.Faults.{with_blanks}

@@ -86,7 +86,7 @@ fn first_line(
     let mut table_text = Vec::new(alloc);
     push_table_name(&mut table_text, table)?;
     let mut column_text = Vec::new(alloc);
-    push_name(&mut column_text, column.as_slice())?;
+    push_name(&mut column_text, column)?;
     line_of(
         alloc,
         &[b"First", &table_text, b"NoJoin", &column_text, join_cause_text(cause)],

@@ -1,3 +1,5 @@
+ghost use Rattle.std.specs.Prelude.{◌≡◌};
+
 use dm_dump::DumpCause;
 use dm_join::JoinCause;
 use dm_list::Bytes;
@@ -48,7 +50,6 @@ pub enum Which {
 }
 
 impl Status {
-    ghost use Rattle.std.specs.Prelude.{◌≡◌};
     ghost use Rattle.dm_report.specs.Faults.{code_of};
 
     /// The exit status of the program.
