@@ -2,12 +2,10 @@
 #![tactic(auto)]
 
 mod faults;
-mod kind_text;
 mod status;
 #[cfg(test)]
 mod tests;
 mod text;
-mod value_text;
 
 pub use faults::fault_line;
 pub use status::Status;

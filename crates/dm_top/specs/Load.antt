@@ -9,7 +9,7 @@ use Rattle.dm_base.specs.Outside.{Files}
 use Rattle.dm_value.specs.declared.value.Value.{Value}
 use Rattle.dm_value.specs.Order.{row_cmp}
 use Rattle.dm_schema.specs.Names.{Text, column_names, repeats}
-use Rattle.dm_schema.specs.NameOrder.{columns_in_order}
+use Rattle.dm_schema.specs.NameOrder.{columns_in_order, uniques_in_order}
 use Rattle.dm_schema.specs.Rows.{key_of, values_at}
 use Rattle.dm_schema.specs.Schemas.{schema_equal}
 use Rattle.dm_dump.specs.declared.dump.Dump.{Dump}
@@ -92,4 +92,4 @@ rows_by_key entries = fin.values (map_of entries)
 abbrev pub merged_text : List Dump → List ℕ
 merged_text [] = []
 merged_text (first ∷ rest) =
-    table_text (columns_in_order first.schema.columns) first.schema.primary (rows_by_key (all_entries (first ∷ rest))) (length (rows_by_key (all_entries (first ∷ rest))))
+    table_text (columns_in_order first.schema.columns) first.schema.primary (uniques_in_order first.schema.uniques) (rows_by_key (all_entries (first ∷ rest))) (length (rows_by_key (all_entries (first ∷ rest))))

@@ -8,7 +8,7 @@ use Rattle.dm_value.specs.Order.{row_cmp}
 use Rattle.dm_schema.specs.Layout.{Layout}
 use Rattle.dm_dump.specs.declared.dump.Dump.{Dump}
 use Rattle.dm_schema.specs.Names.{Text}
-use Rattle.dm_schema.specs.NameOrder.{columns_in_order}
+use Rattle.dm_schema.specs.NameOrder.{columns_in_order, uniques_in_order}
 use Rattle.dm_report.specs.Texts.{table_text}
 use Rattle.dm_schema.specs.Schemas.{schema_equal}
 use Rattle.dm_dump.specs.PlainDump.{IsPlainDump}
@@ -62,4 +62,4 @@ named_texts files = map (λ f. (f.name, f.bytes.items)) files
 -- the text of what was merged
 abbrev pub text_of : Option Layout → BTreeMap Row Row → List ℕ
 text_of None rows = []
-text_of (Some schema) rows = table_text (columns_in_order schema.columns) schema.primary (values rows) (length (values rows))
+text_of (Some schema) rows = table_text (columns_in_order schema.columns) schema.primary (uniques_in_order schema.uniques) (values rows) (length (values rows))

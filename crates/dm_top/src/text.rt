@@ -9,17 +9,23 @@ ghost use Rattle.dm_top.specs.Merge.{IsMerged, text_of};
 use crate::merge::Merged;
 use dm_list::Bytes;
 use dm_report::{push_head, push_row};
-use dm_schema::in_name_order;
+use dm_schema::{Column, in_name_order};
 use dm_value::Row;
 use std::alloc::{AllocError, Global};
 use std::collections::BTreeMap;
 
 /// Adds the lines of rows in the order of their keys.
-fn push_rows(alloc: Global, out: &mut Vec<u8>, rows: &BTreeMap<Row, Row>) -> Result<(), AllocError>
-    ensures { OnOk result (out.new.items ≡ out.old.items ++ flat_map row_line (values rows.now)) }
+fn push_rows(
+    alloc: Global,
+    out: &mut Vec<u8>,
+    columns: &[Column],
+    rows: &BTreeMap<Row, Row>,
+) -> Result<(), AllocError>
+    ensures { OnOk result
+        (out.new.items ≡ out.old.items ++ flat_map (row_line columns.now) (values rows.now)) }
 {
     for row in rows.values() {
-        push_row(alloc, out, row.as_slice())?;
+        push_row(alloc, out, columns, row.as_slice())?;
     }
     Ok(())
 }
@@ -31,9 +37,11 @@ pub fn text_of(alloc: Global, merged: &Merged) -> Result<Bytes, AllocError>
     let mut out = Vec::new(alloc);
     if let Some(schema) = &merged.first {
         let columns = in_name_order(alloc, schema.columns())?;
+        let uniques = in_name_order(alloc, schema.uniques())?;
         let primary = schema.primary().as_slice();
-        push_head(alloc, &mut out, &columns, primary, merged.rows.len() as u64)?;
-        push_rows(alloc, &mut out, &merged.rows)?;
+        let count = merged.rows.len() as u64;
+        push_head(alloc, &mut out, &columns, primary, &uniques, count)?;
+        push_rows(alloc, &mut out, &columns, &merged.rows)?;
     }
     Ok(Bytes::new(out))
 }

@@ -5,4 +5,4 @@ use Rattle.dm_report.specs.Texts.{row_line}
 use Rattle.dm_top.proofs.text.push_rows.Given as goal
 
 abbrev pub invariant-loop-row : goal.invariant-loop-row
-invariant-loop-row l = l.out.items ++ flat_map row_line l.row-iterator ≡ l.fn.out.items ++ flat_map row_line (values l.rows)
+invariant-loop-row l = l.out.items ++ flat_map (row_line l.columns) l.row-iterator ≡ l.fn.out.items ++ flat_map (row_line l.columns) (values l.rows)
