@@ -1,4 +1,5 @@
 pub mod Digits
+pub mod Dumping
 pub mod Taking
 pub mod Bodies
 pub mod Bits

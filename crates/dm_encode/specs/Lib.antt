@@ -6,3 +6,4 @@ pub mod Values
 pub mod Rows
 pub mod Events
 pub mod ReadBack
+pub mod Dumps

@@ -2,13 +2,11 @@
 #![tactic(auto)]
 
 mod faults;
-mod kind_text;
 mod status;
 mod tasks;
 #[cfg(test)]
 mod tests;
 mod text;
-mod value_text;
 
 pub use faults::fault_line;
 pub use status::{Status, Which};

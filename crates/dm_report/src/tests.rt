@@ -1,6 +1,6 @@
 use crate::{Status, fault_line, push_head, push_row};
 use dm_list::Bytes;
-use dm_schema::{Column, DefaultRule, Kind};
+use dm_schema::{Column, DefaultRule, Kind, Names, UniqueKey};
 use dm_value::{Name, Value};
 use std::alloc::{AllocError, Global};
 use std::test::Fail;
@@ -13,12 +13,17 @@ fn string(alloc: Global, text: &[u8]) -> Result<Value, AllocError> {
     Ok(Value::Bytes(Bytes::new(text.to_vec(alloc)?)))
 }
 
-fn column(alloc: Global, text: &[u8], kind: Kind, nullable: bool) -> Result<Column, AllocError> {
+fn column(
+    alloc: Global,
+    text: &[u8],
+    kind: Kind,
+    default_rule: DefaultRule,
+) -> Result<Column, AllocError> {
     Ok(Column {
         name: name(alloc, text)?,
         kind,
-        nullable,
-        default_rule: DefaultRule::Nothing,
+        nullable: true,
+        default_rule,
     })
 }
 
@@ -26,19 +31,19 @@ fn column(alloc: Global, text: &[u8], kind: Kind, nullable: bool) -> Result<Colu
 fn prints_a_table(rt: HostRuntime) -> Result<(), Fail> {
     let alloc = rt.alloc();
     let columns = vec![in alloc;
-        column(alloc, b"id", Kind::Signed(4), false)?,
-        column(alloc, b"v", Kind::Varchar(20), true)?,
+        column(alloc, b"id", Kind::Signed(4), DefaultRule::Nothing)?,
+        column(alloc, b"v", Kind::Varchar(20), DefaultRule::Nothing)?,
     ]?;
     let primary = vec![in alloc; name(alloc, b"id")?]?;
     let mut out = Vec::new(alloc);
-    push_head(alloc, &mut out, &columns, &primary, 3)?;
+    push_head(alloc, &mut out, &columns, &primary, &[], 3)?;
     let first = vec![in alloc; Value::Int(1), string(alloc, b"x")?]?;
-    push_row(alloc, &mut out, &first)?;
+    push_row(alloc, &mut out, &columns, &first)?;
     let second = vec![in alloc; Value::Int(2), Value::Null]?;
-    push_row(alloc, &mut out, &second)?;
+    push_row(alloc, &mut out, &columns, &second)?;
     let third = vec![in alloc; Value::Int(11), string(alloc, b"it's")?]?;
-    push_row(alloc, &mut out, &third)?;
-    let want = b"column `id` INT NOT NULL\n\
+    push_row(alloc, &mut out, &columns, &third)?;
+    let want = b"column `id` INT NULL\n\
         column `v` VARCHAR(20) NULL\n\
         primary (`id`)\n\
         rows 3\n\
@@ -49,61 +54,36 @@ fn prints_a_table(rt: HostRuntime) -> Result<(), Fail> {
     Ok(())
 }
 
-#[test]
-fn escapes_and_doubles(rt: HostRuntime) -> Result<(), Fail> {
-    let alloc = rt.alloc();
-    let columns = vec![in alloc; column(alloc, b"a`b", Kind::Year, true)?]?;
-    let primary = vec![in alloc; name(alloc, b"a`b")?, name(alloc, b"c")?]?;
-    let mut out = Vec::new(alloc);
-    push_head(alloc, &mut out, &columns, &primary, 0)?;
-    let row = vec![in alloc;
-        Value::Int(-9223372036854775808),
-        string(alloc, b"\0\n\r\x1A'\\\"\t%`\xC3\xA9")?,
-        string(alloc, b"")?,
-    ]?;
-    push_row(alloc, &mut out, &row)?;
-    let want = b"column `a``b` YEAR NULL\n\
-        primary (`a``b`,`c`)\n\
-        rows 0\n\
-        row (-9223372036854775808,'\\0\\n\\r\\Z\\'\\\\\"\t%`\xC3\xA9','')\n";
-    assert_eq!(rt; out.as_slice(), want.as_slice());
-    Ok(())
+fn default_columns(alloc: Global) -> Result<Vec<Column>, AllocError> {
+    let constant = DefaultRule::Const(Value::Int(-1));
+    let first = column(alloc, b"a`b", Kind::Signed(2), constant)?;
+    let second = column(alloc, b"t", Kind::Datetime(3), DefaultRule::Now)?;
+    Ok(vec![in alloc; first, second]?)
+}
+
+fn unique(alloc: Global, text: &[u8], column: &[u8]) -> Result<UniqueKey, AllocError> {
+    let columns = vec![in alloc; name(alloc, column)?]?;
+    Ok(UniqueKey {
+        name: name(alloc, text)?,
+        columns: Names::new(columns),
+    })
 }
 
 #[test]
-fn names_each_kind(rt: HostRuntime) -> Result<(), Fail> {
+fn prints_keys_and_defaults(rt: HostRuntime) -> Result<(), Fail> {
     let alloc = rt.alloc();
-    for (kind, text) in [
-        (Kind::Signed(1), "TINYINT"),
-        (Kind::Signed(2), "SMALLINT"),
-        (Kind::Signed(3), "MEDIUMINT"),
-        (Kind::Signed(4), "INT"),
-        (Kind::Signed(8), "BIGINT"),
-        (Kind::Unsigned(8), "BIGINT UNSIGNED"),
-        (Kind::Decimal(38, 0), "DECIMAL(38,0)"),
-        (Kind::Char(3), "CHAR(3)"),
-        (Kind::Varchar(65535), "VARCHAR(65535)"),
-        (Kind::Text(1), "TINYTEXT"),
-        (Kind::Text(2), "TEXT"),
-        (Kind::Text(3), "MEDIUMTEXT"),
-        (Kind::Text(4), "LONGTEXT"),
-        (Kind::Binary(16), "BINARY(16)"),
-        (Kind::Varbinary(255), "VARBINARY(255)"),
-        (Kind::Blob(1), "TINYBLOB"),
-        (Kind::Blob(2), "BLOB"),
-        (Kind::Date, "DATE"),
-        (Kind::Year, "YEAR"),
-        (Kind::Datetime(0), "DATETIME"),
-        (Kind::Datetime(6), "DATETIME(6)"),
-        (Kind::Timestamp(0), "TIMESTAMP"),
-        (Kind::Timestamp(3), "TIMESTAMP(3)"),
-    ] {
-        let columns = vec![in alloc; column(alloc, b"c", kind, true)?]?;
-        let mut out = Vec::new(alloc);
-        push_head(alloc, &mut out, &columns, &[], 0)?;
-        let want = format!(in alloc; "column `c` {text} NULL\nprimary ()\nrows 0\n")?;
-        assert_eq!(rt; out.as_slice(), want.as_bytes(), "at {text}");
-    }
+    let columns = default_columns(alloc)?;
+    let primary = vec![in alloc; name(alloc, b"t")?, name(alloc, b"a`b")?]?;
+    let uniques = vec![in alloc; unique(alloc, b"k", b"a`b")?, unique(alloc, b"l", b"t")?]?;
+    let mut out = Vec::new(alloc);
+    push_head(alloc, &mut out, &columns, &primary, &uniques, 0)?;
+    let want = b"column `a``b` SMALLINT NULL DEFAULT -1\n\
+        column `t` DATETIME(3) NULL DEFAULT CURRENT_TIMESTAMP(3)\n\
+        primary (`t`,`a``b`)\n\
+        unique `k` (`a``b`)\n\
+        unique `l` (`t`)\n\
+        rows 0\n";
+    assert_eq!(rt; out.as_slice(), want.as_slice());
     Ok(())
 }
 
