@@ -98,7 +98,10 @@ fn generate(alloc: Global, words: &[String]) -> Result<Order, WordFault>
         return Err(WordFault::Usage);
     };
     let workers = number(&matches, "workers", 1, 32)?;
-    Ok(Order::Gen { number: number_, workers })
+    Ok(Order::Gen {
+        number: number_,
+        workers,
+    })
 }
 
 /// The one name, where there is exactly one.

@@ -5,6 +5,8 @@ mod commands;
 mod matching;
 mod numbers;
 mod order;
+#[cfg(test)]
+mod tests;
 
 pub use commands::read_words;
 pub use order::{Order, WordFault};

@@ -38,9 +38,7 @@ fn command<'a>(alloc: Global, options: &[&'a str]) -> Result<Command<'a>, AllocE
         .disable_help_flag(true)
         .arg(names)?;
     for name in options {
-        let option = Arg::new(alloc, name)
-            .long(name)
-            .action(ArgAction::Set);
+        let option = Arg::new(alloc, name).long(name).action(ArgAction::Set);
         command = command.arg(option)?;
     }
     Ok(command)
