@@ -99,9 +99,9 @@ fault_is known words =
     ∙ ap (λ a. built_fault a nothing_held words) (built_with known)
     ∙ leaf_fault (record { top = shape_with (rules_with known); subs = [] }) nothing_held words refl
     ∙ level_is (walk_fault (shape_with (rules_with known)) [] (walk_from nothing_held) words) (settle_fault (rules_with known) false (last_of known words).held)
-        (defaults_fault (settled (rules_with known) (last_of known words).held).rows (rules_with known))
-        (check_fault (shape_with (rules_with known)) (finished (rules_with known) (last_of known words).held) false)
-        (all_default_faults (settled (rules_with known) (last_of known words).held).rows known) (no_checks (finished (rules_with known) (last_of known words).held) known)
+    (defaults_fault (settled (rules_with known) (last_of known words).held).rows (rules_with known))
+    (check_fault (shape_with (rules_with known)) (finished (rules_with known) (last_of known words).held) false)
+    (all_default_faults (settled (rules_with known) (last_of known words).held).rows known) (no_checks (finished (rules_with known) (last_of known words).held) known)
 
 rows_are : (known words : List Text) → matches_of (app_with known) words ≡ (settled (rules_with known) (last_of known words).held).rows
 rows_are known words =

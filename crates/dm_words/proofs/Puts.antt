@@ -179,8 +179,8 @@ put_name known name parts rows (Some after) gone h = (
   record {
     names = h.1.names ∙ ap (λ names. names ++ names_of parts) (names_with_name name rows) ∙ append_assoc (names_in rows) (name ∷ []) (names_of parts);
     values = λ option k.
-    let other = is_other known option (codes "names") k gone in
-    h.1.values option k ∙ rw (has_with_name name option rows other, first_with_name name option rows other) refl;
+        let other = is_other known option (codes "names") k gone in
+        h.1.values option k ∙ rw (has_with_name name option rows other, first_with_name name option rows other) refl;
   },
 )
 
@@ -201,12 +201,12 @@ put_option known name value parts rows (Some after) gone k new h = (
   by option true e =
       let same : name ≡ option = equal_by name option e in
       let first : first_of option (use_option name value rows) ≡ Some value =
-          ap (λ x. first_of x (use_option name value rows)) (sym same) ∙ first_all name (use_option name value rows) ∙ ap first_in (all_with_option name value rows new) in
+      ap (λ x. first_of x (use_option name value rows)) (sym same) ∙ first_all name (use_option name value rows) ∙ ap first_in (all_with_option name value rows new) in
       let before : has_row option rows ≡ false = ap (λ x. has_row x rows) (sym same) ∙ new in
       rw (has_with_option name value option rows new, e, first, before) refl
   by option false e =
       let first : first_of option (use_option name value rows) ≡ first_of option rows =
-          first_all option (use_option name value rows) ∙ ap first_in (all_beside_option name value option rows new e) ∙ sym (first_all option rows) in
+      first_all option (use_option name value rows) ∙ ap first_in (all_beside_option name value option rows new e) ∙ sym (first_all option rows) in
       rw (has_with_option name value option rows new, e, first) refl
 
 put_refused : (known : List Text) (name value : Text) (parts : List Part) (rows : List Row) → (is_among name known && not (has_row name rows)) ≡ false

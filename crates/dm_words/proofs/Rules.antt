@@ -148,6 +148,6 @@ pub more_options : (options : List (Bor Text)) (i : ℕ) (option : Bor Text) (ap
     → app ≡ app_with (map (λ o. o.now) (take i options)) → rule ≡ option_rule option.now → after ≡ with_rule app rule → after ≡ app_with (map (λ o. o.now) (take (i + 1) options))
 more_options options i option app after rule within is so_far made more =
     let same : map (λ (o : Bor Text). o.now) (take (i + 1) options) ≡ map (λ (o : Bor Text). o.now) (take i options) ++ option.now ∷ [] =
-        ap (map (λ (o : Bor Text). o.now)) (take_more options i option within ∙ ap (λ o. take i options ++ o ∷ []) (sym is)) ∙ map-append (λ (o : Bor Text). o.now) (take i options) (option ∷ []) in
+    ap (map (λ (o : Bor Text). o.now)) (take_more options i option within ∙ ap (λ o. take i options ++ o ∷ []) (sym is)) ∙ map-append (λ (o : Bor Text). o.now) (take i options) (option ∷ []) in
     more ∙ ap (λ a. with_rule a rule) so_far ∙ ap (with_rule (app_with (map (λ (o : Bor Text). o.now) (take i options)))) made
     ∙ sym (ap app_with same ∙ one_more (map (λ (o : Bor Text). o.now) (take i options)) option.now)

@@ -175,7 +175,7 @@ once false = refl
 valued_ready : (known : List Text) (c : List Rule) (behind_name : Bool) (met : Met) (rows : List Row) (word name value : Text) (words : List Text) → IsRules known c
     → bytes_eq word (codes "--") ≡ false → long_of word ≡ Some (name, Some value) → is_among name known ≡ true
     → outcome c (ready behind_name met rows) (word ∷ words) ≡ cond (settles c met rows) (cond (not (has_row name (settled_rows c (pending_of met) rows)))
-        (outcome c (ready false nothing (use_option name value (settled_rows c (pending_of met) rows))) words) None) None
+    (outcome c (ready false nothing (use_option name value (settled_rows c (pending_of met) rows))) words) None) None
 unfolding walked
 valued_ready known c true met rows word name value words r e l k =
     stepped c (ready true met rows) word words (or_else (or_else (settle_fault c false (held_with met rows)) (use_fault false (option_built name) (value ∷ []) (settled_rows c (pending_of met) rows))) [])
@@ -322,7 +322,7 @@ ready_valued known c behind_name met rows word name value words true r k e l t f
     valued_ready known c behind_name met rows word name value words r e l t
     ∙ settling known c met rows (λ rs. cond (not (has_row name rs)) (outcome c (ready false nothing (use_option name value rs)) words) None) r k
     ∙ same_after (settle known met rows) _ (put_each known (before (given name value) (parts_of None words)))
-        (λ rs. ap (λ o. cond (not (has_row name rs)) o None) (further false nothing (use_option name value rs) tt) ∙ put_given known name value (parts_of None words) rs t)
+    (λ rs. ap (λ o. cond (not (has_row name rs)) o None) (further false nothing (use_option name value rs) tt) ∙ put_given known name value (parts_of None words) rs t)
 ready_valued known c behind_name met rows word name value words false r k e l t further =
     unknown_ready known c behind_name met rows word name (Some value) words r e l t
     ∙ sym (same_after (settle known met rows) (put_each known (before (given name value) (parts_of None words))) (λ rs. None) (λ rs. before_put known (given name value) (parts_of None words) rs ∙ rw t refl)
@@ -358,7 +358,7 @@ ready_word known c behind_name met rows word words r k u further waits (plain e 
     rw (e, d) (plain_ready known c behind_name met rows word words r e l s
     ∙ settling known c met rows (λ rs. outcome c (ready true (a_name word) rs) words) r k
     ∙ same_after (settle known met rows) (λ rs. outcome c (ready true (a_name word) rs) words) (put_each known (before (named word) (parts_of None words)))
-        (λ rs. further true (a_name word) rs tt ∙ sym (before_put known (named word) (parts_of None words) rs)))
+    (λ rs. further true (a_name word) rs tt ∙ sym (before_put known (named word) (parts_of None words) rs)))
 
 wanting_word : (known : List Text) (c : List Rule) (name : Text) (rows : List Row) (word : Text) (words : List Text) → IsRules known c → is_among name known ≡ true → IsUtf8 word
     → FromReady known c words → Look word → outcome c (wanting name rows) (word ∷ words) ≡ put_each known (parts_of (Some name) (word ∷ words)) rows

@@ -49,29 +49,30 @@ load_of words = read_parts [] words >>= λ parts. load_order (names_of parts)
 abbrev pub check_task_of : List Text → Option Order
 check_task_of words = read_parts [] words >>= λ parts. only_name (names_of parts) >>= λ file. Some (CheckTask file)
 
-abbrev pub run_of : List Text → Option Order
-run_of words =
-    read_parts (codes "limit" ∷ codes "workers" ∷ codes "stop-after" ∷ []) words >>= λ parts.
-    only_name (names_of parts) >>= λ file.
+abbrev pub run_order : List Part → Text → Option Order
+run_order parts file =
     number_of (codes "limit") 0 4294967295 parts >>= λ limit.
     number_of (codes "workers") 1 32 parts >>= λ workers.
     number_of (codes "stop-after") 1 4294967295 parts >>= λ stop_after.
     Some (Run file limit workers stop_after)
 
+abbrev pub run_of : List Text → Option Order
+run_of words = read_parts (codes "limit" ∷ codes "workers" ∷ codes "stop-after" ∷ []) words >>= λ parts. only_name (names_of parts) >>= run_order parts
+
 abbrev pub show_order : List Text → Option Order
-show_order [] = Some Show
-show_order (name ∷ names) = None
+show_order names = if length names == 0 then Some Show else None
 
 abbrev pub show_of : List Text → Option Order
 show_of words = read_parts [] words >>= λ parts. show_order (names_of parts)
 
-abbrev pub gen_of : List Text → Option Order
-gen_of words =
-    read_parts (codes "workers" ∷ []) words >>= λ parts.
-    only_name (names_of parts) >>= λ text.
-    number_in 0 4294967295 text >>= λ number.
+abbrev pub gen_order : List Part → Text → Option Order
+gen_order parts name =
+    number_in 0 4294967295 name >>= λ number.
     number_of (codes "workers") 1 32 parts >>= λ workers.
     Some (Gen number workers)
+
+abbrev pub gen_of : List Text → Option Order
+gen_of words = read_parts (codes "workers" ∷ []) words >>= λ parts. only_name (names_of parts) >>= gen_order parts
 
 -- what the words ask for; nothing where they are wrong
 abbrev pub order_of : List Text → Option Order

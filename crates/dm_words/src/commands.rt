@@ -1,12 +1,13 @@
-ghost use Rattle.std.specs.Prelude.{◌≡◌, map, IfOk, ok_or};
+ghost use Rattle.std.specs.Prelude.{◌≡◌, [], map, IfOk, ok_or, unwrap_or};
+ghost use Rattle.std.specs.Option.{option_copied, option_map};
 ghost use Rattle.std.specs.String.{string_bytes};
 ghost use Rattle.std.specs.Str.{IsUtf8};
 ghost use Rattle.std.specs.List.{All};
 ghost use Rattle.clap.specs.Words.{found_of, first_value};
 ghost use Rattle.dm_list.specs.Answer.{Answers};
-ghost use Rattle.dm_words.specs.Words.{order_of, load_of, check_task_of, run_of, show_of, gen_of, optional_number, files_of, is_memory};
+ghost use Rattle.dm_words.specs.Words.{order_of, load_of, check_task_of, run_of, show_of, gen_of, only_name, optional_number, files_of, is_memory};
 
-use crate::matching::{matched_names, matches};
+use crate::matching::{NAMES, matches};
 use crate::numbers::number_in;
 use crate::{Order, WordFault};
 use clap::ArgMatches;
@@ -35,7 +36,9 @@ fn load(alloc: Global, words: &[String]) -> Result<Order, WordFault>
     ensures { Answers is_memory result (ok_or (load_of (map string_bytes words.now)) WordFault.Usage) }
 {
     let matches = matches(alloc, &[], words)?;
-    let names = matched_names(&matches);
+    let Some(names) = matches.get_strs(NAMES) else {
+        return Err(WordFault::Usage);
+    };
     if names.is_empty() || names.len() > 64 {
         return Err(WordFault::Usage);
     }
@@ -48,7 +51,7 @@ fn check_task(alloc: Global, words: &[String]) -> Result<Order, WordFault>
     ensures { Answers is_memory result (ok_or (check_task_of (map string_bytes words.now)) WordFault.Usage) }
 {
     let matches = matches(alloc, &[], words)?;
-    let [name] = matched_names(&matches) else {
+    let Some(name) = only_name(matches.get_strs(NAMES)) else {
         return Err(WordFault::Usage);
     };
     Ok(Order::CheckTask {
@@ -60,7 +63,7 @@ fn run(alloc: Global, words: &[String]) -> Result<Order, WordFault>
     ensures { Answers is_memory result (ok_or (run_of (map string_bytes words.now)) WordFault.Usage) }
 {
     let matches = matches(alloc, &["limit", "workers", "stop-after"], words)?;
-    let [name] = matched_names(&matches) else {
+    let Some(name) = only_name(matches.get_strs(NAMES)) else {
         return Err(WordFault::Usage);
     };
     let limit = number(&matches, "limit", 0, u32::MAX)?;
@@ -78,10 +81,9 @@ fn show(alloc: Global, words: &[String]) -> Result<Order, WordFault>
     ensures { Answers is_memory result (ok_or (show_of (map string_bytes words.now)) WordFault.Usage) }
 {
     let matches = matches(alloc, &[], words)?;
-    if matched_names(&matches).is_empty() {
-        Ok(Order::Show)
-    } else {
-        Err(WordFault::Usage)
+    match matches.get_strs(NAMES) {
+        Some(names) if !names.is_empty() => Err(WordFault::Usage),
+        _ => Ok(Order::Show),
     }
 }
 
@@ -89,14 +91,27 @@ fn generate(alloc: Global, words: &[String]) -> Result<Order, WordFault>
     ensures { Answers is_memory result (ok_or (gen_of (map string_bytes words.now)) WordFault.Usage) }
 {
     let matches = matches(alloc, &["workers"], words)?;
-    let [name] = matched_names(&matches) else {
+    let Some(name) = only_name(matches.get_strs(NAMES)) else {
         return Err(WordFault::Usage);
     };
     let Some(number_) = number_in(0, u32::MAX, name.as_bytes()) else {
         return Err(WordFault::Usage);
     };
     let workers = number(&matches, "workers", 1, 32)?;
-    Ok(Order::Gen { number: number_, workers })
+    Ok(Order::Gen {
+        number: number_,
+        workers,
+    })
+}
+
+/// The one name, where there is exactly one.
+fn only_name<'a>(names: Option<&[&'a str]>) -> Option<&'a str>
+    ensures { option_copied result ≡ only_name (unwrap_or (option_map (λ list. map (λ name. name.now) list.now) names.entry) []) }
+{
+    match names {
+        Some([name]) => Some(*name),
+        _ => None,
+    }
 }
 
 /// The number that is given for an option, if one is.

@@ -3,7 +3,7 @@ ghost use Rattle.std.specs.String.{string_bytes};
 ghost use Rattle.dm_words.specs.Parts.{is_among};
 ghost use Rattle.clap.specs.Words.{app_of, kind_of};
 ghost use Rattle.dm_words.specs.Commands.{app_with};
-ghost use Rattle.dm_words.specs.Reading.{Matches, matched_names, fault_by};
+ghost use Rattle.dm_words.specs.Reading.{Matches, fault_by};
 
 use crate::WordFault;
 use clap::error::ErrorKind;
@@ -11,7 +11,7 @@ use clap::{Arg, ArgAction, ArgMatches, Command, Error};
 use std::alloc::{AllocError, Global};
 
 /// The argument that takes each word that isn't an option.
-const NAMES: &str = "names";
+pub const NAMES: &str = "names";
 
 /// Reads the words behind a command that has these options. None of them is called `names`.
 pub fn matches<'a>(
@@ -38,9 +38,7 @@ fn command<'a>(alloc: Global, options: &[&'a str]) -> Result<Command<'a>, AllocE
         .disable_help_flag(true)
         .arg(names)?;
     for name in options {
-        let option = Arg::new(alloc, name)
-            .long(name)
-            .action(ArgAction::Set);
+        let option = Arg::new(alloc, name).long(name).action(ArgAction::Set);
         command = command.arg(option)?;
     }
     Ok(command)
@@ -53,11 +51,4 @@ fn fault_of(error: &Error) -> WordFault
         ErrorKind::OutOfMemory => WordFault::Memory,
         _ => WordFault::Usage,
     }
-}
-
-/// The names among the words, in order.
-pub fn matched_names<'m, 'a>(matches: &'m ArgMatches<'a>) -> &'m [&'a str]
-    ensures { map (λ name. name.now) result.now ≡ matched_names matches.now }
-{
-    matches.get_strs(NAMES).unwrap_or(&[])
 }

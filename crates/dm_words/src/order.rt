@@ -7,8 +7,12 @@ use std::alloc::AllocError;
 #[derive(Debug, Drop, PartialEq, Eq)]
 pub enum Order {
     /// From 1 to 64 files.
-    Load { files: Sequence<Bytes> },
-    CheckTask { file: Bytes },
+    Load {
+        files: Sequence<Bytes>,
+    },
+    CheckTask {
+        file: Bytes,
+    },
     Run {
         file: Bytes,
         limit: Option<u32>,
