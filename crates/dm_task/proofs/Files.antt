@@ -13,3 +13,8 @@ pub more_hold : {X Y : Type 0} (P : Y → Type 0) (files : X → List Y) (xs mor
 more_hold P files xs more x more_is front back =
     let all = both_hold P (flat_map files xs) (files x ++ []) front (both_hold P (files x) [] back tt) in
     subst (λ list. AllByRecursion P (flat_map files list)) (sym more_is) (subst (AllByRecursion P) (sym (flat_map-append files xs (x ∷ []))) all)
+
+-- of a list of names, each of which holds itself alone
+pub names_hold : {X : Type 0} (P : X → Type 0) (names : List X) → AllByRecursion P (flat_map (λ name. name ∷ []) names) → AllByRecursion P names
+names_hold P [] h = h
+names_hold P (name ∷ names) h = (h.0, names_hold P names h.1)

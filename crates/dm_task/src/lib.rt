@@ -11,6 +11,8 @@ mod rules;
 mod sharding;
 mod source;
 mod task;
+#[cfg(test)]
+mod tests;
 mod texts;
 mod values;
 
