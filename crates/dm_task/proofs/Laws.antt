@@ -40,12 +40,13 @@ routed rules source table shard h = by (target_by (route_of rules table.db table
   by None is h = absurd (cc)
   by (Some target) is h = subst (IsRouted rules) (same_Some _ _ h) (record { admitted = admitted_by rules (table_name table) target is; target = is })
 
+one_more : {Y : Type 0} (P : Y → Type 0) (ys : List Y) (o : Option Y) → ((y : Y) → o ≡ Some y → P y) → AllByRecursion P ys → AllByRecursion P (cons_option o ys)
+one_more P ys None known rest = rest
+one_more P ys (Some y) known rest = (known y refl, rest)
+
 all_filtered : {X Y : Type 0} (P : Y → Type 0) (f : X → Option Y) → ((x : X) (y : Y) → f x ≡ Some y → P y) → (xs : List X) → AllByRecursion P (filter_map f xs)
 all_filtered P f known [] = tt
-all_filtered P f known (x ∷ xs) = by (f x) refl where
-  by : (o : Option _) → f x ≡ o → AllByRecursion P (cons_option o (filter_map f xs))
-  by None is = all_filtered P f known xs
-  by (Some y) is = (known x y is, all_filtered P f known xs)
+all_filtered P f known (x ∷ xs) = one_more P (filter_map f xs) (f x) (known x) (all_filtered P f known xs)
 
 all_joined : {X Y : Type 0} (P : Y → Type 0) (f : X → List Y) → ((x : X) → AllByRecursion P (f x)) → (xs : List X) → AllByRecursion P (flat_map f xs)
 all_joined P f known [] = tt
@@ -67,19 +68,19 @@ name_exact a b h = ap (λ (p : Text × Text). record { db = p.0; table = p.1 }) 
 
 name_kept : (P : TableName → Type 0) (names : List TableName) (name : TableName) → AllByRecursion P names → P name → AllByRecursion P (with_name names name)
 name_kept P [] name h p = (p, tt)
-name_kept P (other ∷ others) name h p = by (table_name_cmp name other) where
-  by : (o : Ordering) → AllByRecursion P (match_ordering o (name ∷ other ∷ others) (other ∷ others) (other ∷ with_name others name))
-  by Less = (p, h)
-  by Equal = h
-  by Greater = (h.0, name_kept P others name h.1 p)
+name_kept P (other ∷ others) name h p = by (table_name_cmp name other) (name_kept P others name h.1 p) where
+  by : (o : Ordering) → AllByRecursion P (with_name others name) → AllByRecursion P (match_ordering o (name ∷ other ∷ others) (other ∷ others) (other ∷ with_name others name))
+  by Less rest = (p, h)
+  by Equal rest = h
+  by Greater rest = (h.0, rest)
 
 name_there : (P : TableName → Type 0) (names : List TableName) (name : TableName) → AllByRecursion P (with_name names name) → AllByRecursion P names × P name
 name_there P [] name h = (tt, h.0)
-name_there P (other ∷ others) name h = by (table_name_cmp name other) refl h where
-  by : (o : Ordering) → table_name_cmp name other ≡ o → AllByRecursion P (match_ordering o (name ∷ other ∷ others) (other ∷ others) (other ∷ with_name others name)) → AllByRecursion P (other ∷ others) × P name
-  by Less is h = (h.1, h.0)
-  by Equal is h = (h, subst P (sym (name_exact name other is)) h.0)
-  by Greater is h = let rest = name_there P others name h.1 in ((h.0, rest.0), rest.1)
+name_there P (other ∷ others) name h = by (table_name_cmp name other) (name_there P others name) refl h where
+  by : (o : Ordering) → (AllByRecursion P (with_name others name) → AllByRecursion P others × P name) → table_name_cmp name other ≡ o → AllByRecursion P (match_ordering o (name ∷ other ∷ others) (other ∷ others) (other ∷ with_name others name)) → AllByRecursion P (other ∷ others) × P name
+  by Less there is h = (h.1, h.0)
+  by Equal there is h = (h, subst P (sym (name_exact name other is)) h.0)
+  by Greater there is h = let rest = there h.1 in ((h.0, rest.0), rest.1)
 
 all_kept : (P : TableName → Type 0) (names list : List TableName) → AllByRecursion P names → AllByRecursion P list → AllByRecursion P (fold with_name names list)
 all_kept P names [] h k = h
@@ -107,11 +108,11 @@ weaker P Q known (x ∷ xs) h = (known x h.0, weaker P Q known xs h.1)
 name_in_order : (names : List TableName) (name : TableName) → IsStrictlySortedBy table_name_cmp names → IsStrictlySortedBy table_name_cmp (with_name names name)
 unfolding IsStrictlySortedBy
 name_in_order [] name h = (tt, tt)
-name_in_order (other ∷ others) name h = by (table_name_cmp name other) refl where
-  by : (o : Ordering) → table_name_cmp name other ≡ o → IsStrictlySortedBy table_name_cmp (match_ordering o (name ∷ other ∷ others) (other ∷ others) (other ∷ with_name others name))
-  by Less is = ((is, weaker (λ y. table_name_cmp other y ≡ Less) (λ y. table_name_cmp name y ≡ Less) (λ y behind. name_total.trans name other y is behind) others h.0), h)
-  by Equal is = h
-  by Greater is = (name_kept (λ y. table_name_cmp other y ≡ Less) others name h.0 (name_total.antisymm other name ∙ ap ordering_reverse is), name_in_order others name h.1)
+name_in_order (other ∷ others) name h = by (table_name_cmp name other) (name_in_order others name h.1) refl where
+  by : (o : Ordering) → IsStrictlySortedBy table_name_cmp (with_name others name) → table_name_cmp name other ≡ o → IsStrictlySortedBy table_name_cmp (match_ordering o (name ∷ other ∷ others) (other ∷ others) (other ∷ with_name others name))
+  by Less rest is = ((is, weaker (λ y. table_name_cmp other y ≡ Less) (λ y. table_name_cmp name y ≡ Less) (λ y behind. name_total.trans name other y is behind) others h.0), h)
+  by Equal rest is = h
+  by Greater rest is = (name_kept (λ y. table_name_cmp other y ≡ Less) others name h.0 (name_total.antisymm other name ∙ ap ordering_reverse is), rest)
 
 all_in_order : (names list : List TableName) → IsStrictlySortedBy table_name_cmp names → IsStrictlySortedBy table_name_cmp (fold with_name names list)
 all_in_order names [] h = h

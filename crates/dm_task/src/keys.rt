@@ -136,11 +136,7 @@ pub(crate) fn needed_source_name(
     }
 }
 
-pub(crate) fn needed_name(
-    alloc: Global,
-    section: Section<'_>,
-    key: &str,
-) -> Result<Name, TaskFault>
+pub(crate) fn needed_name(alloc: Global, section: Section<'_>, key: &str) -> Result<Name, TaskFault>
     ensures { Answers is_memory result (needed name key.now section.entry.path.now (table_view section.entry.table.now)) }
 {
     match member(section.table, key) {

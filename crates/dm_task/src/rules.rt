@@ -17,7 +17,9 @@ use std::alloc::Global;
 use toml::Value;
 
 const ROUTE_KEYS: [&str; 4] = ["db", "table", "to_db", "to_table"];
+
 const FILTER_KEYS: [&str; 3] = ["db", "table", "ignore"];
+
 const ALLOW_KEYS: [&str; 2] = ["db", "table"];
 
 fn pair_in(alloc: Global, section: Section<'_>) -> Result<Pair, TaskFault>
@@ -40,7 +42,11 @@ fn route_in(alloc: Global, section: Section<'_>) -> Result<RouteRule, TaskFault>
     })
 }
 
-fn needed_kinds(alloc: Global, section: Section<'_>, key: &str) -> Result<Sequence<EventKind>, TaskFault>
+fn needed_kinds(
+    alloc: Global,
+    section: Section<'_>,
+    key: &str,
+) -> Result<Sequence<EventKind>, TaskFault>
     ensures { Answers is_memory result (needed (array kind) key.now section.entry.path.now (table_view section.entry.table.now)) }
 {
     match member(section.table, key) {
@@ -76,10 +82,7 @@ impl Element for RouteRule {
     ) -> Result<RouteRule, TaskFault> {
         let table = members_in(alloc, place, value, &ROUTE_KEYS)?;
         let path = path_of(alloc, place)?;
-        let section = Section {
-            path: &path,
-            table,
-        };
+        let section = Section { path: &path, table };
         route_in(alloc, section)
     }
 }
@@ -100,10 +103,7 @@ impl Element for FilterRule {
     ) -> Result<FilterRule, TaskFault> {
         let table = members_in(alloc, place, value, &FILTER_KEYS)?;
         let path = path_of(alloc, place)?;
-        let section = Section {
-            path: &path,
-            table,
-        };
+        let section = Section { path: &path, table };
         filter_in(alloc, section)
     }
 }
@@ -124,10 +124,7 @@ impl Element for Pair {
     ) -> Result<Pair, TaskFault> {
         let table = members_in(alloc, place, value, &ALLOW_KEYS)?;
         let path = path_of(alloc, place)?;
-        let section = Section {
-            path: &path,
-            table,
-        };
+        let section = Section { path: &path, table };
         pair_in(alloc, section)
     }
 }

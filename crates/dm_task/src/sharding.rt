@@ -99,11 +99,7 @@ fn names_in_order(alloc: Global, shards: &[Shard]) -> Result<Vec<TableName>, All
 }
 
 /// Puts a name among names in order, unless it is there.
-fn add_name(
-    alloc: Global,
-    names: &mut Vec<TableName>,
-    name: &TableName,
-) -> Result<(), AllocError>
+fn add_name(alloc: Global, names: &mut Vec<TableName>, name: &TableName) -> Result<(), AllocError>
     ensures { OnOk result (names.new.items ≡ with_name names.old.items name.now) }
 {
     if let Some(place) = spot(names, name) {

@@ -7,7 +7,9 @@ ghost use Rattle.dm_task.specs.Reading.{is_memory};
 ghost use Rattle.dm_task.specs.TaskFile.{has_table, source_table_in, table_files, has_source, source_in, source_files};
 
 use crate::array::{Element, array_or_none, needed_array};
-use crate::keys::{Section, database, members_in, needed_file_name, needed_name, needed_source_name, whole_or};
+use crate::keys::{
+    Section, database, members_in, needed_file_name, needed_name, needed_source_name, whole_or,
+};
 use crate::place::{Place, path_of, refused};
 use crate::texts::same_text;
 use crate::{Source, SourceTable, TaskCause, TaskFault};
@@ -17,15 +19,15 @@ use std::alloc::Global;
 use toml::Value;
 
 const TABLE_KEYS: [&str; 4] = ["db", "table", "create", "rows"];
+
 const SOURCE_KEYS: [&str; 4] = ["name", "binlogs", "start", "table"];
 
 /// Whether one of these tables has the pair of names.
 fn has_table(tables: &[SourceTable], db: &[u8], table: &[u8]) -> bool
     ensures { result ≡ has_table tables.now db.now table.now }
 {
-    tables
-        .iter()
-        .any(|other| same_text(other.db.as_slice(), db) && same_text(other.table.as_slice(), table))
+    tables.iter().any(|other| same_text(other.db.as_slice(), db)
+        && same_text(other.table.as_slice(), table))
 }
 
 fn source_table_in(
@@ -66,10 +68,7 @@ impl Element for SourceTable {
     ) -> Result<SourceTable, TaskFault> {
         let table = members_in(alloc, place, value, &TABLE_KEYS)?;
         let path = path_of(alloc, place)?;
-        let section = Section {
-            path: &path,
-            table,
-        };
+        let section = Section { path: &path, table };
         source_table_in(alloc, earlier, section)
     }
 }
@@ -83,11 +82,7 @@ fn has_source(sources: &[Source], name: &[u8]) -> bool
         .any(|other| same_text(other.name.as_slice(), name))
 }
 
-fn source_in(
-    alloc: Global,
-    earlier: &[Source],
-    section: Section<'_>,
-) -> Result<Source, TaskFault>
+fn source_in(alloc: Global, earlier: &[Source], section: Section<'_>) -> Result<Source, TaskFault>
     ensures value { Answers is_memory result (source_in earlier.now section.entry.path.now (table_view section.entry.table.now)) }
     ensures texts { IfOk result (λ source. AllByRecursion IsUtf8 (source_files source)) }
 {
@@ -121,10 +116,7 @@ impl Element for Source {
     ) -> Result<Source, TaskFault> {
         let table = members_in(alloc, place, value, &SOURCE_KEYS)?;
         let path = path_of(alloc, place)?;
-        let section = Section {
-            path: &path,
-            table,
-        };
+        let section = Section { path: &path, table };
         source_in(alloc, earlier, section)
     }
 }

@@ -236,7 +236,10 @@ fn finds_the_first_fault_at_the_top(rt: HostRuntime) -> Result<(), Fail> {
 
 #[test]
 fn finds_the_first_fault_of_sources(rt: HostRuntime) -> Result<(), Fail> {
-    assert_eq!(rt; answered(rt.alloc(), SOURCES)?.as_slice(), SOURCES.as_bytes());
+    assert_eq!(rt;
+        answered(rt.alloc(), SOURCES)?.as_slice(),
+        SOURCES.as_bytes()
+    );
     Ok(())
 }
 
@@ -281,7 +284,8 @@ fn push_numbered(
 }
 
 /// What is repeated so many times between what stands before and behind it, and what is answered.
-const LENGTHS: &str = r#"64|name = "t";|[[source]];name = "s#";[[source.table]];db = "d";table = "t";create = "c";| => fine
+const LENGTHS: &str =
+    r#"64|name = "t";|[[source]];name = "s#";[[source.table]];db = "d";table = "t";create = "c";| => fine
 65|name = "t";|[[source]];name = "s#";[[source.table]];db = "d";table = "t";create = "c";| => source Range
 64|name = "t";[[source]];name = "s";|[[source.table]];db = "d";table = "t#";create = "c";|[[route]];db = "*";table = "*";to_db = "d";to_table = "t" => fine
 64|name = "t";[[source]];name = "s";|[[source.table]];db = "d";table = "t#";create = "c";| => source Targets
@@ -330,7 +334,10 @@ fn lengths_answered(alloc: Global) -> Result<Vec<u8>, Fail> {
 
 #[test]
 fn counts_what_is_repeated(rt: HostRuntime) -> Result<(), Fail> {
-    assert_eq!(rt; lengths_answered(rt.alloc())?.as_slice(), LENGTHS.as_bytes());
+    assert_eq!(rt;
+        lengths_answered(rt.alloc())?.as_slice(),
+        LENGTHS.as_bytes()
+    );
     Ok(())
 }
 
@@ -343,9 +350,18 @@ fn answer(alloc: Global, text: &[u8]) -> Result<Vec<u8>, AllocError> {
 #[test]
 fn takes_utf8_without_a_mark(rt: HostRuntime) -> Result<(), Fail> {
     let alloc = rt.alloc();
-    assert_eq!(rt; answer(alloc, b"\xEF\xBB\xBFname = 1")?.as_slice(), b"- NotToml".as_slice());
-    assert_eq!(rt; answer(alloc, b"name = 1 # \xFF")?.as_slice(), b"- NotToml".as_slice());
-    assert_eq!(rt; answer(alloc, b"name = 1 # \xC3\xA9")?.as_slice(), b"name Kind".as_slice());
+    assert_eq!(rt;
+        answer(alloc, b"\xEF\xBB\xBFname = 1")?.as_slice(),
+        b"- NotToml".as_slice()
+    );
+    assert_eq!(rt;
+        answer(alloc, b"name = 1 # \xFF")?.as_slice(),
+        b"- NotToml".as_slice()
+    );
+    assert_eq!(rt;
+        answer(alloc, b"name = 1 # \xC3\xA9")?.as_slice(),
+        b"name Kind".as_slice()
+    );
     Ok(())
 }
 
@@ -452,7 +468,10 @@ s1 d.t d.t,s1 d.t0 e.u,s2 d.t d.t,
 
 #[test]
 fn reads_a_whole_task(rt: HostRuntime) -> Result<(), Fail> {
-    assert_eq!(rt; described_text(rt.alloc(), GOOD.as_bytes())?.as_slice(), GOOD_SAYS.as_bytes());
+    assert_eq!(rt;
+        described_text(rt.alloc(), GOOD.as_bytes())?.as_slice(),
+        GOOD_SAYS.as_bytes()
+    );
     Ok(())
 }
 
@@ -479,6 +498,9 @@ s e.b e.b,s e.a e.a,s d.z d.z,s f.a e.b,
 
 #[test]
 fn takes_defaults_and_orders_targets(rt: HostRuntime) -> Result<(), Fail> {
-    assert_eq!(rt; described_text(rt.alloc(), SMALL.as_bytes())?.as_slice(), SMALL_SAYS.as_bytes());
+    assert_eq!(rt;
+        described_text(rt.alloc(), SMALL.as_bytes())?.as_slice(),
+        SMALL_SAYS.as_bytes()
+    );
     Ok(())
 }
