@@ -1,0 +1,5 @@
+pub mod Arrays
+pub mod Documents
+pub mod Examples
+pub mod Files
+pub mod Laws
