@@ -1,5 +1,6 @@
 -- How a command ends: its exit status, and the line that is printed where it ends by a fault.
-use Rattle.std.specs.Prelude.{ℕ, List, [], ◌∷◌, ◌++◌, codes}
+use Rattle.std.specs.Prelude.{ℕ, Bool, not, ◌==◌, List, [], ◌∷◌, ◌++◌, length, codes, if◌then◌else◌}
+use Rattle.std.specs.List.{flat_map}
 use Rattle.std.specs.Fmt.{decimal}
 use Rattle.dm_join.specs.declared.no_join.JoinCause.{JoinCause}
 use Rattle.dm_join.specs.declared.no_join.JoinCause.TheVariants as join_cause
@@ -64,25 +65,30 @@ which_text which.Values = codes "Values"
 
 -- Lines.
 
--- words with a blank between each two
-abbrev pub with_blanks : List (List ℕ) → List ℕ
-with_blanks [] = []
-with_blanks (word ∷ []) = word
-with_blanks (word ∷ next ∷ words) = word ++ 32 ∷ with_blanks (next ∷ words)
+-- a word behind a blank
+abbrev pub behind_blank : List ℕ → List ℕ
+behind_blank word = 32 ∷ word
 
 abbrev pub line_of : List (List ℕ) → List ℕ
-line_of words = with_blanks (codes "fault" ∷ words) ++ 10 ∷ []
+line_of words = codes "fault" ++ flat_map behind_blank words ++ codes "\n"
 
--- Done has no fault; want of memory and a sink that fails leave no line.
+-- the words of a status's line; Done has no fault, and want of memory and a sink that fails leave no line
+abbrev pub fault_words : Status → List (List ℕ)
+fault_words status.Done = []
+fault_words status.Usage = codes "Usage" ∷ []
+fault_words (status.Task path cause) = codes "Task" ∷ path ∷ task_cause_text cause ∷ []
+fault_words status.ReadFault = codes "ReadFault" ∷ []
+fault_words status.WriteFault = []
+fault_words status.Memory = []
+fault_words (status.Limit which) = codes "Limit" ∷ which_text which ∷ []
+fault_words status.Unlawful = codes "Unlawful" ∷ []
+fault_words (status.Missing name) = codes "Missing" ∷ name ∷ []
+fault_words (status.Dump file at cause) = codes "Dump" ∷ file ∷ decimal at ∷ dump_cause_text cause ∷ []
+fault_words (status.First table column cause) = codes "First" ∷ table_name_text table ∷ codes "NoJoin" ∷ quoted column ∷ join_cause_text cause ∷ []
+
+abbrev pub has_line : Status → Bool
+has_line s = not (length (fault_words s) == 0)
+
+-- the line of a fault, empty where there is none
 abbrev pub fault_line : Status → List ℕ
-fault_line status.Done = []
-fault_line status.Usage = line_of (codes "Usage" ∷ [])
-fault_line (status.Task path cause) = line_of (codes "Task" ∷ path ∷ task_cause_text cause ∷ [])
-fault_line status.ReadFault = line_of (codes "ReadFault" ∷ [])
-fault_line status.WriteFault = []
-fault_line status.Memory = []
-fault_line (status.Limit which) = line_of (codes "Limit" ∷ which_text which ∷ [])
-fault_line status.Unlawful = line_of (codes "Unlawful" ∷ [])
-fault_line (status.Missing name) = line_of (codes "Missing" ∷ name ∷ [])
-fault_line (status.Dump file at cause) = line_of (codes "Dump" ∷ file ∷ decimal at ∷ dump_cause_text cause ∷ [])
-fault_line (status.First table column cause) = line_of (codes "First" ∷ table_name_text table ∷ codes "NoJoin" ∷ quoted column ∷ join_cause_text cause ∷ [])
+fault_line s = if has_line s then line_of (fault_words s) else []

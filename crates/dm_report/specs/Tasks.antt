@@ -6,19 +6,22 @@ use Rattle.dm_task.specs.declared.task.Task.{Task}
 use Rattle.dm_task.specs.declared.task.Shard.{Shard}
 use Rattle.dm_task.specs.Shards.{shards_of, targets_of}
 use Rattle.dm_text.specs.Names.{table_name_text}
-use Rattle.dm_report.specs.Faults.{with_blanks}
+use Rattle.dm_report.specs.Faults.{behind_blank}
 
--- a shard's name: that of its source, a blank, and that of its table
-abbrev pub shard_name : Shard → List ℕ
-shard_name s = with_blanks (s.source ∷ table_name_text s.name ∷ [])
-
+-- shard source `db`.`table` to `db`.`table`
 abbrev pub shard_line : Shard → List ℕ
-shard_line s = with_blanks (codes "shard" ∷ shard_name s ∷ codes "to" ∷ table_name_text s.target ∷ []) ++ 10 ∷ []
+shard_line s =
+    codes "shard" ++ behind_blank s.source ++ behind_blank (table_name_text s.name) ++ codes " to" ++ behind_blank (table_name_text s.target) ++ codes "\n"
 
+-- a number behind its word
+abbrev pub numbered : List ℕ → ℕ → List ℕ
+numbered word number = behind_blank word ++ behind_blank (decimal number)
+
+-- task name sources 1 shards 2 tables 1
 abbrev pub task_line : Task → List ℕ
 task_line task =
-    with_blanks (codes "task" ∷ task.name ∷ codes "sources" ∷ decimal (length task.sources) ∷ codes "shards" ∷ decimal (length (shards_of task))
-    ∷ codes "tables" ∷ decimal (length (targets_of task)) ∷ []) ++ 10 ∷ []
+    codes "task" ++ behind_blank task.name ++ numbered (codes "sources") (length task.sources) ++ numbered (codes "shards") (length (shards_of task))
+    ++ numbered (codes "tables") (length (targets_of task)) ++ codes "\n"
 
 abbrev pub task_text : Task → List ℕ
 task_text task = task_line task ++ flat_map shard_line (shards_of task)

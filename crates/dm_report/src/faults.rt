@@ -1,5 +1,6 @@
-ghost use Rattle.std.specs.Prelude.{◌≡◌, ◌++◌, map, IfOk, OnOk};
-ghost use Rattle.dm_report.specs.Faults.{task_cause_text, dump_cause_text, join_cause_text, which_text, with_blanks, line_of, fault_line};
+ghost use Rattle.std.specs.Prelude.{◌≡◌, ◌++◌, IsTrue, IfOk, OnOk};
+ghost use Rattle.std.specs.List.{flat_map};
+ghost use Rattle.dm_report.specs.Faults.{task_cause_text, dump_cause_text, join_cause_text, which_text, behind_blank, has_line, fault_words, fault_line};
 
 use crate::status::{Status, Which};
 use dm_dump::DumpCause;
@@ -15,82 +16,94 @@ use std::alloc::{AllocError, Global};
 pub fn fault_line(alloc: Global, status: &Status) -> Result<Bytes, AllocError>
     ensures { IfOk result (λ line. line ≡ fault_line status.now) }
 {
-    let line = match status {
-        Status::Done | Status::WriteFault | Status::Memory => Vec::new(alloc),
-        Status::Usage => line_of(alloc, &[b"Usage"])?,
+    let mut line = Vec::new(alloc);
+    match status {
+        Status::Done | Status::WriteFault | Status::Memory => {}
+        _ => push_line(alloc, &mut line, status)?,
+    }
+    Ok(Bytes::new(line))
+}
+
+/// Adds the line of a status that has one.
+fn push_line(alloc: Global, line: &mut Vec<u8>, status: &Status) -> Result<(), AllocError>
+    requires { IsTrue (has_line status.now) }
+    ensures { OnOk result (line.new.items ≡ line.old.items ++ fault_line status.now) }
+{
+    line.extend_from_slice(b"fault")?;
+    push_fault(alloc, line, status)?;
+    line.extend_from_slice(b"\n")?;
+    Ok(())
+}
+
+/// Adds the words of a status's line.
+fn push_fault(alloc: Global, line: &mut Vec<u8>, status: &Status) -> Result<(), AllocError>
+    ensures { OnOk result (line.new.items ≡ line.old.items ++ flat_map behind_blank (fault_words status.now)) }
+{
+    match status {
+        Status::Done | Status::WriteFault | Status::Memory => Ok(()),
+        Status::Usage => push_word(line, b"Usage"),
         Status::Task { path, cause } => {
-            line_of(alloc, &[b"Task", path.as_slice(), task_cause_text(*cause)])?
+            push_two(line, b"Task", path.as_slice())?;
+            push_word(line, task_cause_text(*cause))
         }
-        Status::ReadFault => line_of(alloc, &[b"ReadFault"])?,
-        Status::Limit { which } => line_of(alloc, &[b"Limit", which_text(*which)])?,
-        Status::Unlawful => line_of(alloc, &[b"Unlawful"])?,
-        Status::Missing { name } => line_of(alloc, &[b"Missing", name.as_slice()])?,
-        Status::Dump { file, at, cause } => dump_line(alloc, file, *at, *cause)?,
+        Status::ReadFault => push_word(line, b"ReadFault"),
+        Status::Limit { which } => push_two(line, b"Limit", which_text(*which)),
+        Status::Unlawful => push_word(line, b"Unlawful"),
+        Status::Missing { name } => push_two(line, b"Missing", name.as_slice()),
+        Status::Dump { file, at, cause } => push_dump(alloc, line, file, *at, *cause),
         Status::First {
             table,
             column,
             cause,
-        } => first_line(alloc, table, column, *cause)?,
-    };
-    Ok(Bytes::new(line))
-}
-
-/// Adds words with a blank between each two.
-pub fn push_words(out: &mut Vec<u8>, words: &[&[u8]]) -> Result<(), AllocError>
-    ensures { OnOk result (out.new.items ≡ out.old.items ++ with_blanks (map (λ w. w.now) words.now)) }
-{
-    match words {
-        [] => Ok(()),
-        [word] => out.extend_from_slice(word),
-        [word, rest @ ..] => {
-            out.extend_from_slice(word)?;
-            out.push(b' ')?;
-            push_words(out, rest)
-        }
+        } => push_first(line, table, column, *cause),
     }
 }
 
-/// The line of a fault that these words tell.
-fn line_of(alloc: Global, words: &[&[u8]]) -> Result<Vec<u8>, AllocError>
-    ensures { IfOk result (λ line. line.items ≡ line_of (map (λ w. w.now) words.now)) }
+/// Adds a word behind a blank.
+pub fn push_word(line: &mut Vec<u8>, word: &[u8]) -> Result<(), AllocError>
+    ensures { OnOk result (line.new.items ≡ line.old.items ++ behind_blank word.now) }
 {
-    let mut line = Vec::from_slice(alloc, b"fault ")?;
-    push_words(&mut line, words)?;
-    line.push(b'\n')?;
-    Ok(line)
+    line.push(b' ')?;
+    line.extend_from_slice(word)
 }
 
-fn dump_line(
+/// Adds two words.
+pub fn push_two(line: &mut Vec<u8>, first: &[u8], second: &[u8]) -> Result<(), AllocError>
+    ensures { OnOk result (line.new.items ≡ line.old.items ++ (behind_blank first.now ++ behind_blank second.now)) }
+{
+    push_word(line, first)?;
+    push_word(line, second)
+}
+
+fn push_dump(
     alloc: Global,
+    line: &mut Vec<u8>,
     file: &Bytes,
     at: u32,
     cause: DumpCause,
-) -> Result<Vec<u8>, AllocError>
-    ensures { IfOk result (λ line. line.items ≡ fault_line (Status.Dump file.now at cause)) }
+) -> Result<(), AllocError>
+    ensures { OnOk result (line.new.items ≡ line.old.items ++ flat_map behind_blank (fault_words (Status.Dump file.now at cause))) }
 {
-    let at = at.to_string(alloc)?;
-    line_of(
-        alloc,
-        &[b"Dump", file.as_slice(), at.as_bytes(), dump_cause_text(cause)],
-    )
+    let place = at.to_string(alloc)?;
+    push_two(line, b"Dump", file.as_slice())?;
+    push_two(line, place.as_bytes(), dump_cause_text(cause))
 }
 
-fn first_line(
-    alloc: Global,
+fn push_first(
+    line: &mut Vec<u8>,
     table: &TableName,
     column: &Name,
     cause: JoinCause,
-) -> Result<Vec<u8>, AllocError>
-    ensures { IfOk result (λ line. line.items ≡ fault_line (Status.First table.now column.now cause)) }
+) -> Result<(), AllocError>
+    ensures { OnOk result (line.new.items ≡ line.old.items ++ flat_map behind_blank (fault_words (Status.First table.now column.now cause))) }
 {
-    let mut table_text = Vec::new(alloc);
-    push_table_name(&mut table_text, table)?;
-    let mut column_text = Vec::new(alloc);
-    push_name(&mut column_text, column)?;
-    line_of(
-        alloc,
-        &[b"First", &table_text, b"NoJoin", &column_text, join_cause_text(cause)],
-    )
+    push_word(line, b"First")?;
+    line.push(b' ')?;
+    push_table_name(line, table)?;
+    push_word(line, b"NoJoin")?;
+    line.push(b' ')?;
+    push_name(line, column)?;
+    push_word(line, join_cause_text(cause))
 }
 
 fn task_cause_text(cause: TaskCause) -> &'static [u8]
