@@ -44,7 +44,7 @@ word_parts word further =
     else before (named word) (further None)
 
 -- What the words are, behind an option that waits for its value or behind none. After `--` all are names. A word that
--- begins with `-` and is longer must be an option, and is no value.
+-- begins with `-` and is longer must be an option, and is no value. (Nor is `-`, since each value is a number.)
 abbrev pub parts_of : Option Text → List Text → Option (List Part)
 parts_of None [] = Some []
 parts_of (Some option) [] = None

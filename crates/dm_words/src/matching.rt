@@ -14,7 +14,7 @@ use std::alloc::{AllocError, Global};
 pub const NAMES: &str = "names";
 
 /// Reads the words behind a command that has these options. None of them is called `names`.
-pub fn matches<'a>(
+pub fn matches_of<'a>(
     alloc: Global,
     options: &[&'a str],
     words: &'a [String],

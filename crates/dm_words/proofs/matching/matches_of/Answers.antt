@@ -7,7 +7,7 @@ use Rattle.dm_words.specs.Commands.{app_with}
 use Rattle.dm_words.specs.Reading.{Matches}
 use Rattle.dm_words.proofs.Rules.{simple_with}
 use Rattle.dm_words.proofs.Read.{matches_are, faults_are, all_text}
-use Rattle.dm_words.proofs.matching.matches.Goals as goal
+use Rattle.dm_words.proofs.matching.matches_of.Goals as goal
 
 pub returns-in-Ok : goal.returns-in-Ok
 returns-in-Ok c =
