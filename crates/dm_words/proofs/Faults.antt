@@ -1,17 +1,17 @@
 -- Where `clap` finds no fault in the words, and which rows it answers.
-use Rattle.std.proofs.Common.{◌≡◌, ℕ, Bool, true, false, cond, ◌&&◌, ◌||◌, not, List, [], ◌∷◌, map, fold, drop, Option, Some, None, codes, refl, sym, ap, ◌∙◌}
+use Rattle.std.proofs.Common.{◌≡◌, Bool, true, false, cond, ◌&&◌, ◌||◌, not, List, [], ◌∷◌, map, fold, drop, Option, Some, None, codes, refl, ap, ◌∙◌}
 use Rattle.std.specs.List.{All, list_any}
 use Rattle.std.specs.Str.{IsUtf8}
 use Rattle.clap.specs.Kinds.{Kinds, or_else}
-use Rattle.clap.specs.Walk.{Rule, Row, Walk, Text, walked, walk_from, settled, settled_rows, nothing_held, has_row, with_default, finished, rows_after}
+use Rattle.clap.specs.Walk.{Rule, Row, Walk, Text, walked, walk_from, settled, nothing_held, has_row, with_default, finished, rows_after}
 use Rattle.clap.specs.Simple.{argument_words, built, matches_of, names_of}
 use Rattle.clap.specs.Takes.{is_given}
-use Rattle.clap.specs.Faults.{turn_fault, settle_fault, walk_fault, default_fault, defaults_fault, check_fault, level_fault, built_fault, fault_of}
+use Rattle.clap.specs.Faults.{turn_fault, settle_fault, walk_fault, default_fault, defaults_fault, check_fault, built_fault, fault_of}
 use Rattle.clap.proofs.FaultLemmas.{leaf_fault}
 use Rattle.dm_words.specs.Parts.{is_among, parts_of}
 use Rattle.dm_words.specs.Commands.{app_with}
-use Rattle.dm_words.proofs.Rules.{IsRules, names_built, option_built, rules_with, rules_are, shape_with, built_with, takes_all_words}
-use Rattle.dm_words.proofs.Walked.{nothing, is_clean, outcome, put_each, walks}
+use Rattle.dm_words.proofs.Rules.{names_built, option_built, rules_with, rules_are, shape_with, built_with, takes_all_words}
+use Rattle.dm_words.proofs.Walked.{nothing, is_clean, outcome, or_nothing, put_each, walks}
 
 -- the rows where there is no fault, and none where there is one
 abbrev pub IsTold : Kinds → List Row → Option (List Row) → Type 0
@@ -75,10 +75,6 @@ all_default_faults rows known =
 
 all_defaults : (rows : List Row) (known : List Text) → fold with_default rows (rules_with known) ≡ rows
 all_defaults rows known = ap (λ rs. fold with_default rs (map option_built known)) (without_default names_built rows refl).1 ∙ no_defaults rows known
-
-or_nothing : (kinds : Kinds) → or_else kinds [] ≡ kinds
-or_nothing [] = refl
-or_nothing (k ∷ kinds) = refl
 
 -- ---- the parse
 

@@ -1,5 +1,5 @@
 -- Putting parts in order: which rows they leave, and that an option that isn't known or stands twice leaves none.
-use Rattle.std.proofs.Common.{◌≡◌, ℕ, Bool, true, false, cond, ◌&&◌, ◌||◌, not, List, [], ◌∷◌, ◌++◌, find, is_some, codes, Option, Some, None, unwrap_or, refl, sym, ap, ◌∙◌, append_assoc, append-nil, slice_get}
+use Rattle.std.proofs.Common.{◌≡◌, Bool, true, false, cond, ◌&&◌, ◌||◌, not, List, [], ◌∷◌, ◌++◌, find, is_some, codes, Option, Some, None, unwrap_or, refl, sym, ap, ◌∙◌, append_assoc, append-nil, slice_get}
 use Rattle.std.specs.Option.{option_and_then, option_map}
 use Rattle.std.specs.Str.{bytes_eq}
 use Rattle.std.proofs.lemmas.Slice.Eq.{bytes_eq-Decides}
@@ -10,7 +10,7 @@ use Rattle.clap.specs.declared.builder.value_parser.Reading.TheVariants.{AsWritt
 use Rattle.clap.specs.declared.parser.matches.ValueSource.TheVariants.{CommandLine}
 use Rattle.dm_words.specs.Parts.{Part, named, given, is_among, names_of, options_of, value_of, are_options}
 use Rattle.dm_words.proofs.Rules.{is_other}
-use Rattle.dm_words.proofs.Walked.{put, put_all, use_name, use_option, no_and}
+use Rattle.dm_words.proofs.Walked.{put_all, use_name, use_option, no_and}
 
 -- ---- texts
 

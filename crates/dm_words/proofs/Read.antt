@@ -1,29 +1,27 @@
 -- What is read of the words, by what `clap` answers.
-use Rattle.std.proofs.Common.{◌≡◌, ℕ, zero, suc, ◌<◌, length, arith, Bool, true, false, cond, ◌⊎◌, inl, inr, List, [], ◌∷◌, map, codes, Option, Some, None, unwrap_or, Err, refl, sym, ap, ◌∙◌}
-use Rattle.std.specs.Option.{option_map}
+use Rattle.std.proofs.Common.{◌≡◌, ℕ, zero, suc, ◌<◌, length, arith, true, false, ◌⊎◌, inl, inr, List, [], ◌∷◌, map, codes, Option, Some, None, unwrap_or, Err, refl, sym, ap, ◌∙◌}
 use Rattle.std.specs.List.{All, slice_index_or}
 use Rattle.std.specs.declared.string.String.{String}
 use Rattle.std.specs.String.{string_bytes}
 use Rattle.std.proofs.lemmas.Str.{IsUtf8-string_bytes}
 use Rattle.std.specs.Str.{IsUtf8}
-use Rattle.std.specs.Result.{IfOk}
 use Rattle.std.proofs.lemmas.Bool.{and_parts}
 use Rattle.clap.specs.Kinds.{Kinds, IsAmong}
-use Rattle.clap.specs.Walk.{Row, Text, rows_of, first_of, all_of}
-use Rattle.clap.specs.Matches.{found_of, matched_of, raw_values, first_value}
-use Rattle.clap.specs.Simple.{is_simple, matches_of, subcommand_of, subcommand_rows_of, HasMatchesOf}
-use Rattle.clap.specs.Faults.{fault_of, is_free_app, is_simple_and_free}
+use Rattle.clap.specs.Walk.{Row, Text, rows_of, first_of}
+use Rattle.clap.specs.Matches.{found_of}
+use Rattle.clap.specs.Simple.{is_simple, matches_of, HasMatchesOf}
+use Rattle.clap.specs.Faults.{fault_of}
 use Rattle.clap.specs.declared.error.kind.ErrorKind.{ErrorKind}
 use Rattle.clap.specs.declared.error.kind.ErrorKind.TheVariants.{OutOfMemory}
 use Rattle.clap.specs.declared.parser.matches.ArgMatches.{ArgMatches}
 use Rattle.clap.proofs.WalkLemmas.{first_value-rows, raw_values-rows}
-use Rattle.dm_words.specs.Parts.{Part, is_among, names_of, options_of, value_of, parts_of, are_options, read_parts}
+use Rattle.dm_words.specs.Parts.{Part, is_among, names_of, options_of, value_of, parts_of, read_parts}
 use Rattle.dm_words.specs.Commands.{app_with}
 use Rattle.dm_words.specs.Reading.{Matches, HasParts, fault_by}
 use Rattle.dm_words.proofs.Rules.{simple_with}
 use Rattle.dm_words.proofs.Walked.{is_clean, put_each, put_all}
 use Rattle.dm_words.proofs.Faults.{IsTold, parse_told}
-use Rattle.dm_words.proofs.Puts.{names_in, IsPut, Holds, puts, fits_none}
+use Rattle.dm_words.proofs.Puts.{names_in, IsPut, puts, fits_none}
 
 -- what the rows hold
 record HasRows (known : List Text) (parts : List Part) (rows : List Row) : Type 0 where

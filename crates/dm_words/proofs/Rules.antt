@@ -1,13 +1,12 @@
 -- What `clap` looks up among the arguments of a built command.
-use Rattle.std.proofs.Common.{◌≡◌, ℕ, add-zero, ◌<◌, length, take, get_or, Bor, ◌+◌, append-nil, count_by, Bool, true, false, cond, ◌&&◌, ◌||◌, not, List, [], ◌∷◌, ◌++◌, map, fold, find, is_some, codes, Option, Some, None, refl, sym, ap, ◌∙◌, append_assoc}
+use Rattle.std.proofs.Common.{◌≡◌, ℕ, add-zero, ◌<◌, length, take, get_or, Bor, ◌+◌, append-nil, count_by, Bool, true, false, cond, ◌&&◌, ◌||◌, not, List, [], ◌∷◌, ◌++◌, map, fold, find, is_some, codes, Some, None, refl, sym, ap, ◌∙◌, append_assoc}
 use Rattle.std.specs.List.{list_any, list_all}
 use Rattle.std.specs.Str.{bytes_eq}
-use Rattle.std.specs.Option.{option_map_or}
 use Rattle.std.proofs.lemmas.List.{map-append, take_more}
 use Rattle.std.proofs.lemmas.List.Sums.{fold-append}
 use Rattle.std.proofs.lemmas.Slice.Eq.{bytes_eq-Decides}
 use Rattle.clap.specs.Walk.{Rule, is_early_multiple, arg_by_id, arg_by_long, arg_by_short, arg_by_index}
-use Rattle.clap.specs.Simple.{App, Shape, new_shape, with_rule, filled, filled_from, with_index, built, is_simple, is_buildable, is_ready, is_ready_leaf}
+use Rattle.clap.specs.Simple.{App, Shape, new_shape, with_rule, filled, filled_from, with_index, built, is_buildable, is_ready, is_ready_leaf}
 use Rattle.clap.specs.Faults.{is_simple_and_free, is_free_app}
 use Rattle.dm_words.specs.Parts.{Text, is_among}
 use Rattle.dm_words.specs.Commands.{names_rule, option_rule, bare_app, app_with}

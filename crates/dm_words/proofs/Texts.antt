@@ -1,16 +1,16 @@
 -- The names that an order holds are text.
-use Rattle.std.proofs.Common.{◌≡◌, ℕ, zero, suc, ◌<◌, ◌==◌, length, arith, Bool, true, false, cond, List, [], ◌∷◌, map, Option, Some, None, Result, Ok, Err, ok_or, codes, refl, sym, ap, subst, ◌∙◌}
-use Rattle.std.specs.Option.{option_and_then, option_map}
-use Rattle.std.specs.List.{All, slice_index_or, after_first}
+use Rattle.std.proofs.Common.{◌≡◌, ℕ, zero, suc, ◌==◌, arith, Bool, true, false, cond, List, [], ◌∷◌, map, Option, Some, None, Result, Ok, Err, ok_or, codes, refl, ap, subst}
+use Rattle.std.specs.Option.{option_and_then}
+use Rattle.std.specs.List.{All, after_first}
 use Rattle.std.specs.Str.{IsUtf8, bytes_eq}
 use Rattle.std.specs.Result.{IfOk}
 use Rattle.dm_list.specs.Answer.{Answers}
 use Rattle.dm_words.specs.declared.order.Order.{Order}
-use Rattle.dm_words.specs.declared.order.Order.TheVariants.{Load, CheckTask, Run, Show, Gen}
+use Rattle.dm_words.specs.declared.order.Order.TheVariants.{Load, Run, Show, Gen}
 use Rattle.dm_words.specs.declared.order.WordFault.{WordFault}
-use Rattle.dm_words.specs.declared.order.WordFault.TheVariants.{Usage, Memory}
+use Rattle.dm_words.specs.declared.order.WordFault.TheVariants.{Usage}
 use Rattle.dm_words.specs.Parts.{Text, Part, named, given, is_dashed, behind_dashes, has_value, option_name, option_parts, before, parts_of, names_of, options_of, are_options, read_parts}
-use Rattle.dm_words.specs.Words.{only_name, number_in, number_of, run_order, gen_order, load_order, show_order, load_of, check_task_of, run_of, show_of, gen_of, files_of, is_memory}
+use Rattle.dm_words.specs.Words.{only_name, number_in, number_of, run_order, gen_order, load_of, check_task_of, run_of, show_of, gen_of, files_of, is_memory}
 
 abbrev pub AreTexts : List Text → Type 0
 AreTexts = All IsUtf8

@@ -1,18 +1,18 @@
 -- What `clap` makes of the words, part by part: its walk takes the parts in order, each when the next one comes.
-use Rattle.std.proofs.Common.{◌≡◌, ℕ, zero, suc, ◌+◌, ◌==◌, Bool, true, false, cond, ◌&&◌, ◌||◌, not, List, [], ◌∷◌, ◌++◌, map, fold, length, is_some, codes, Option, Some, None, refl, sym, ap, subst, ◌∙◌, ◌<◌, slice_get, lit<, arith}
+use Rattle.std.proofs.Common.{◌≡◌, ℕ, suc, ◌==◌, Bool, true, false, cond, ◌&&◌, not, List, [], ◌∷◌, map, length, codes, Option, Some, None, refl, sym, ap, subst, ◌∙◌, ◌<◌, slice_get, lit<, arith}
 use Rattle.std.proofs.lemmas.Bool.{eqb-true}
 use Rattle.std.proofs.lemmas.Str.{is_utf8-from_IsUtf8}
 use Rattle.std.specs.Prelude.{encode_utf8_all}
 use Rattle.std.specs.Char.{encode_utf8}
 use lib.Utf8.{scalars}
 use Rattle.std.proofs.lemmas.Slice.Eq.{bytes_eq-Decides}
-use Rattle.std.specs.Option.{option_and_then, option_map}
+use Rattle.std.specs.Option.{option_and_then}
 use Rattle.std.specs.Str.{bytes_eq, chars, IsUtf8, is_utf8}
 use Rattle.std.specs.List.{All, after_first}
 use Rattle.clap.specs.Lexer.{long_of, short_of, name_and_value}
 use Rattle.clap.specs.Kinds.{Kinds, or_else}
-use Rattle.clap.specs.Walk.{Rule, Row, Held, Waiting, Walk, idle, positional, option, walked, settled, settled_rows, used, has_row, is_pending, bundle_met}
-use Rattle.clap.specs.Faults.{turn_fault, settle_fault, use_fault, flags_fault, walk_fault}
+use Rattle.clap.specs.Walk.{Rule, Row, Held, Waiting, Walk, idle, positional, option, walked, settled, settled_rows, used, has_row, is_pending}
+use Rattle.clap.specs.Faults.{turn_fault, settle_fault, use_fault, flags_fault}
 use Rattle.clap.specs.declared.error.kind.ErrorKind.TheVariants as kind
 use Rattle.dm_words.specs.Parts.{Text, Part, named, given, is_dashed, behind_dashes, has_value, before, option_name, option_parts, is_among, parts_of}
 use Rattle.dm_words.proofs.Rules.{IsRules, names_built, option_built, shape_with}
@@ -89,7 +89,7 @@ trailing waiting pending rows = record { held = record { rows = rows; pending = 
 
 -- ---- settling
 
-or_nothing : (kinds : Kinds) → or_else kinds [] ≡ kinds
+pub or_nothing : (kinds : Kinds) → or_else kinds [] ≡ kinds
 or_nothing [] = refl
 or_nothing (k ∷ kinds) = refl
 
@@ -314,7 +314,7 @@ put_given known name value parts rows k = by (has_row name rows) ∙ ap (λ b. o
 abbrev Ready : List Text → List Rule → Bool → Met → List Row → Text → List Text → Option (List Part) → Type 0
 Ready known c behind_name met rows word words parts = outcome c (ready behind_name met rows) (word ∷ words) ≡ option_and_then (put_each known parts) (settle known met rows)
 
--- an option before one more `=`, and one without
+-- an option that is known or isn't, with its value behind `=` and without one
 ready_valued : (known : List Text) (c : List Rule) (behind_name : Bool) (met : Met) (rows : List Row) (word name value : Text) (words : List Text) (t : Bool) → IsRules known c → IsKnown known met
     → bytes_eq word (codes "--") ≡ false → long_of word ≡ Some (name, Some value) → is_among name known ≡ t → FromReady known c words
     → Ready known c behind_name met rows word words (before (given name value) (parts_of None words))

@@ -1,5 +1,5 @@
 -- The command that `clap` is given: it takes any names, and once each of the options.
-use Rattle.std.specs.Prelude.{Bool, true, false, List, [], ◌∷◌, map, fold, codes, Some}
+use Rattle.std.specs.Prelude.{true, List, map, fold, codes, Some}
 use Rattle.clap.specs.declared.builder.action.ArgAction.TheVariants.{Set, Append}
 use Rattle.clap.specs.Walk.{Rule}
 use Rattle.clap.specs.Simple.{App, new_app, new_rule, on_top, with_rule}

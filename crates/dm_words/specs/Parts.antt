@@ -1,5 +1,5 @@
 -- What the words behind a command are, one by one: names, and options with their values.
-use Rattle.std.specs.Prelude.{ℕ, Bool, true, false, not, ◌&&◌, ◌==◌, List, [], ◌∷◌, map, drop, take, length, codes, Option, Some, None, option_and_then, option_map, if◌then◌else◌}
+use Rattle.std.specs.Prelude.{ℕ, Bool, true, false, not, ◌&&◌, ◌==◌, List, [], ◌∷◌, map, codes, Option, Some, None, option_and_then, option_map, if◌then◌else◌}
 use Rattle.std.specs.List.{list_any, before_first, after_first}
 use Rattle.std.specs.Str.{bytes_eq}
 
@@ -44,7 +44,7 @@ word_parts word further =
     else before (named word) (further None)
 
 -- What the words are, behind an option that waits for its value or behind none. After `--` all are names. A word that
--- begins with `-` and is longer must be an option, and is no value.
+-- begins with `-` and is longer must be an option, and is no value. (Nor is `-`, since each value is a number.)
 abbrev pub parts_of : Option Text → List Text → Option (List Part)
 parts_of None [] = Some []
 parts_of (Some option) [] = None

@@ -1,5 +1,5 @@
 -- What is read of the words behind a command.
-use Rattle.std.specs.Prelude.{◌≡◌, ⊤, true, List, [], ◌∷◌, map, codes, Option, Some, None, unwrap_or, option_map, Result, Ok, Err}
+use Rattle.std.specs.Prelude.{◌≡◌, ⊤, true, List, [], codes, Some, None, unwrap_or, option_map, Result, Ok, Err}
 use Rattle.clap.specs.declared.parser.matches.ArgMatches.{ArgMatches}
 use Rattle.clap.specs.Matches.{found_of, matched_of, raw_values, first_value}
 use Rattle.dm_words.specs.declared.order.WordFault.{WordFault}

@@ -1,4 +1,4 @@
-ghost use Rattle.std.specs.Prelude.{◌≡◌, [], map, IfOk, ok_or, unwrap_or};
+ghost use Rattle.std.specs.Prelude.{◌≡◌, [], map, codes, IfOk, ok_or, unwrap_or};
 ghost use Rattle.std.specs.Option.{option_copied, option_map};
 ghost use Rattle.std.specs.String.{string_bytes};
 ghost use Rattle.std.specs.Str.{IsUtf8};
@@ -7,7 +7,7 @@ ghost use Rattle.clap.specs.Words.{found_of, first_value};
 ghost use Rattle.dm_list.specs.Answer.{Answers};
 ghost use Rattle.dm_words.specs.Words.{order_of, load_of, check_task_of, run_of, show_of, gen_of, only_name, optional_number, files_of, is_memory};
 
-use crate::matching::{NAMES, matches};
+use crate::matching::{NAMES, matches_of};
 use crate::numbers::number_in;
 use crate::{Order, WordFault};
 use clap::ArgMatches;
@@ -35,7 +35,7 @@ pub fn read_words(alloc: Global, words: &[String]) -> Result<Order, WordFault>
 fn load(alloc: Global, words: &[String]) -> Result<Order, WordFault>
     ensures { Answers is_memory result (ok_or (load_of (map string_bytes words.now)) WordFault.Usage) }
 {
-    let matches = matches(alloc, &[], words)?;
+    let matches = matches_of(alloc, &[], words)?;
     let Some(names) = matches.get_strs(NAMES) else {
         return Err(WordFault::Usage);
     };
@@ -50,7 +50,7 @@ fn load(alloc: Global, words: &[String]) -> Result<Order, WordFault>
 fn check_task(alloc: Global, words: &[String]) -> Result<Order, WordFault>
     ensures { Answers is_memory result (ok_or (check_task_of (map string_bytes words.now)) WordFault.Usage) }
 {
-    let matches = matches(alloc, &[], words)?;
+    let matches = matches_of(alloc, &[], words)?;
     let Some(name) = only_name(matches.get_strs(NAMES)) else {
         return Err(WordFault::Usage);
     };
@@ -62,13 +62,13 @@ fn check_task(alloc: Global, words: &[String]) -> Result<Order, WordFault>
 fn run(alloc: Global, words: &[String]) -> Result<Order, WordFault>
     ensures { Answers is_memory result (ok_or (run_of (map string_bytes words.now)) WordFault.Usage) }
 {
-    let matches = matches(alloc, &["limit", "workers", "stop-after"], words)?;
+    let matches = matches_of(alloc, &["limit", "workers", "stop-after"], words)?;
     let Some(name) = only_name(matches.get_strs(NAMES)) else {
         return Err(WordFault::Usage);
     };
-    let limit = number(&matches, "limit", 0, u32::MAX)?;
-    let workers = number(&matches, "workers", 1, 32)?;
-    let stop_after = number(&matches, "stop-after", 1, u32::MAX)?;
+    let limit = optional_number(&matches, "limit", 0, u32::MAX)?;
+    let workers = workers(&matches)?;
+    let stop_after = optional_number(&matches, "stop-after", 1, u32::MAX)?;
     Ok(Order::Run {
         file: bytes(alloc, name)?,
         limit,
@@ -80,7 +80,7 @@ fn run(alloc: Global, words: &[String]) -> Result<Order, WordFault>
 fn show(alloc: Global, words: &[String]) -> Result<Order, WordFault>
     ensures { Answers is_memory result (ok_or (show_of (map string_bytes words.now)) WordFault.Usage) }
 {
-    let matches = matches(alloc, &[], words)?;
+    let matches = matches_of(alloc, &[], words)?;
     match matches.get_strs(NAMES) {
         Some(names) if !names.is_empty() => Err(WordFault::Usage),
         _ => Ok(Order::Show),
@@ -90,18 +90,15 @@ fn show(alloc: Global, words: &[String]) -> Result<Order, WordFault>
 fn generate(alloc: Global, words: &[String]) -> Result<Order, WordFault>
     ensures { Answers is_memory result (ok_or (gen_of (map string_bytes words.now)) WordFault.Usage) }
 {
-    let matches = matches(alloc, &["workers"], words)?;
+    let matches = matches_of(alloc, &["workers"], words)?;
     let Some(name) = only_name(matches.get_strs(NAMES)) else {
         return Err(WordFault::Usage);
     };
-    let Some(number_) = number_in(0, u32::MAX, name.as_bytes()) else {
+    let Some(number) = number_in(0, u32::MAX, name.as_bytes()) else {
         return Err(WordFault::Usage);
     };
-    let workers = number(&matches, "workers", 1, 32)?;
-    Ok(Order::Gen {
-        number: number_,
-        workers,
-    })
+    let workers = workers(&matches)?;
+    Ok(Order::Gen { number, workers })
 }
 
 /// The one name, where there is exactly one.
@@ -114,8 +111,15 @@ fn only_name<'a>(names: Option<&[&'a str]>) -> Option<&'a str>
     }
 }
 
+/// How many workers are given, if it is said.
+fn workers(matches: &ArgMatches<'_>) -> Result<Option<u32>, WordFault>
+    ensures { result ≡ ok_or (optional_number 1 32 (first_value (found_of matches.now) (codes "workers"))) WordFault.Usage }
+{
+    optional_number(matches, "workers", 1, 32)
+}
+
 /// The number that is given for an option, if one is.
-fn number(
+fn optional_number(
     matches: &ArgMatches<'_>,
     option: &str,
     least: u32,

@@ -1,7 +1,7 @@
-ghost use Rattle.std.specs.Prelude.{◌≡◌, false, List, map, codes, IfOk, IfErr};
+ghost use Rattle.std.specs.Prelude.{◌≡◌, false, map, codes, IfOk};
 ghost use Rattle.std.specs.String.{string_bytes};
-ghost use Rattle.dm_words.specs.Parts.{is_among};
 ghost use Rattle.clap.specs.Words.{app_of, kind_of};
+ghost use Rattle.dm_words.specs.Parts.{is_among};
 ghost use Rattle.dm_words.specs.Commands.{app_with};
 ghost use Rattle.dm_words.specs.Reading.{Matches, fault_by};
 
@@ -14,7 +14,7 @@ use std::alloc::{AllocError, Global};
 pub const NAMES: &str = "names";
 
 /// Reads the words behind a command that has these options. None of them is called `names`.
-pub fn matches<'a>(
+pub fn matches_of<'a>(
     alloc: Global,
     options: &[&'a str],
     words: &'a [String],

@@ -66,7 +66,11 @@ fn words_of(alloc: Global, text: &str) -> Result<Vec<String>, AllocError> {
 
 fn push_name(out: &mut Vec<u8>, name: &Bytes) -> Result<(), AllocError> {
     out.push(b' ')?;
-    out.extend_from_slice(name.as_slice())
+    if name.is_empty() {
+        out.extend_from_slice(b"''")
+    } else {
+        out.extend_from_slice(name.as_slice())
+    }
 }
 
 fn push_number(out: &mut Vec<u8>, alloc: Global, number: u32) -> Result<(), AllocError> {
@@ -144,7 +148,8 @@ fn push_line(out: &mut Vec<u8>, alloc: Global, words: &str) -> Result<(), AllocE
     out.extend_from_slice(words.as_bytes())?;
     out.extend_from_slice(b"=> ")?;
     push_read(out, alloc, words)?;
-    out.push(b'\n')
+    out.push(b'\n')?;
+    Ok(())
 }
 
 fn readings(alloc: Global) -> Result<Vec<u8>, AllocError> {

@@ -1,13 +1,12 @@
-use Rattle.std.proofs.Common.{rules, ◌≡◌, map, true, List, [], ℕ, inl, inr, subst}
+use Rattle.std.proofs.Common.{◌≡◌, map, true, List, [], subst}
 use Rattle.std.proofs.lemmas.Result.{err_from_is_err_and}
 use Rattle.std.specs.String.{string_bytes}
 use Rattle.clap.specs.Words.{app_of, kind_of, App, HasMatchesOf, HasKind, fault_of, is_simple_and_free}
 use Rattle.dm_words.specs.Parts.{Text}
 use Rattle.dm_words.specs.Commands.{app_with}
-use Rattle.dm_words.specs.Reading.{Matches}
 use Rattle.dm_words.proofs.Rules.{simple_with}
 use Rattle.dm_words.proofs.Read.{matches_are, faults_are, all_text}
-use Rattle.dm_words.proofs.matching.matches.Goals as goal
+use Rattle.dm_words.proofs.matching.matches_of.Goals as goal
 
 pub returns-in-Ok : goal.returns-in-Ok
 returns-in-Ok c =
