@@ -1,6 +1,6 @@
 -- The elements of an array, one after another.
-use Rattle.std.proofs.Common.{◌≡◌, ℕ, suc, ◌+◌, ◌<◌, List, [], ◌∷◌, ◌++◌, map, length, drop, get_or, Result, Ok, Err, Vec, Global, refl, sym, ap, ◌∙◌, add-one, drop-cons}
-use Rattle.toml.specs.Data.{Data, Items}
+use Rattle.std.proofs.Common.{◌≡◌, ℕ, suc, ◌+◌, ◌<◌, List, [], ◌∷◌, ◌++◌, map, length, drop, get_or, Ok, Vec, Global, refl, sym, ap, ◌∙◌, add-one, drop-cons}
+use Rattle.toml.specs.Data.{Data}
 use Rattle.toml.specs.View.{view, items_view, array_view}
 use Rattle.toml.specs.declared.value.Value.{Value}
 use Rattle.dm_task.specs.Paths.{Path, element}

@@ -14,7 +14,6 @@ use Rattle.dm_schema.specs.contracts.table_name.TableNameOrd.TheImpl.Laws.{total
 use Rattle.dm_route.specs.declared.rules.Rules.{Rules}
 use Rattle.dm_route.specs.Rules.{Skip, is_admitted, rule_for, target_of, route_of}
 use Rattle.dm_task.specs.declared.task.Task.{Task}
-use Rattle.dm_task.specs.declared.task.Source.{Source}
 use Rattle.dm_task.specs.declared.task.SourceTable.{SourceTable}
 use Rattle.dm_task.specs.declared.task.Shard.{Shard}
 use Rattle.dm_task.specs.Paths.{Text}

@@ -1,6 +1,6 @@
 -- What the values of single keys say.
 use Rattle.std.specs.Prelude.{ℕ, ℤ, pos, negsuc, Bool, List, Option, Some, None, Ok, if◌then◌else◌}
-use Rattle.toml.specs.Data.{Data, as_integer, as_str}
+use Rattle.toml.specs.Data.{as_integer, as_str}
 use Rattle.dm_route.specs.declared.sign.Sign.{Sign}
 use Rattle.dm_route.specs.declared.event_kind.EventKind.{EventKind}
 use Rattle.dm_route.specs.Patterns.{signs_of}

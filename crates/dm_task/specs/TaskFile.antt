@@ -1,11 +1,10 @@
 -- What a task file says, or the first fault in it.
-use Rattle.std.specs.Prelude.{ℕ, Bool, false, not, ◌||◌, ◌&&◌, nat_lt, List, [], ◌∷◌, ◌++◌, length, codes, Option, Some, None, option_and_then, Ok, if◌then◌else◌}
+use Rattle.std.specs.Prelude.{Bool, false, not, ◌||◌, ◌&&◌, nat_lt, List, [], ◌∷◌, ◌++◌, length, codes, Option, Some, None, option_and_then, Ok, if◌then◌else◌}
 use Rattle.std.specs.Str.{is_utf8}
 use Rattle.std.specs.List.{list_any, flat_map}
-use Rattle.toml.specs.Data.{Data, Members, as_str, get_member}
+use Rattle.toml.specs.Data.{Members, as_str, get_member}
 use Rattle.toml.specs.Parse.{parse_document}
 use Rattle.dm_schema.specs.Names.{same_name}
-use Rattle.dm_schema.specs.declared.table_name.TableName.{TableName}
 use Rattle.dm_route.specs.declared.rules.Pair.{Pair}
 use Rattle.dm_route.specs.declared.rules.RouteRule.{RouteRule}
 use Rattle.dm_route.specs.declared.rules.FilterRule.{FilterRule}

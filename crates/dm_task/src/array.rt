@@ -1,4 +1,4 @@
-ghost use Rattle.std.specs.Prelude.{◌≡◌, [], map, IfOk, IsUtf8};
+ghost use Rattle.std.specs.Prelude.{[], map, IfOk, IsUtf8};
 ghost use Rattle.std.specs.List.{flat_map, AllByRecursion};
 ghost use Rattle.dm_list.specs.Answer.{Answers};
 ghost use Rattle.toml.specs.View.{view, table_view};

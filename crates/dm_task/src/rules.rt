@@ -1,4 +1,3 @@
-ghost use Rattle.std.specs.Prelude.{◌≡◌};
 ghost use Rattle.dm_list.specs.Answer.{Answers};
 ghost use Rattle.toml.specs.View.{table_view};
 ghost use Rattle.dm_task.specs.Reading.{is_memory, needed, array};

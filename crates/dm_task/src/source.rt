@@ -1,8 +1,7 @@
-ghost use Rattle.std.specs.Prelude.{◌≡◌, ◌∷◌, IfOk, IsUtf8};
-ghost use Rattle.std.specs.List.{list_any, AllByRecursion};
+ghost use Rattle.std.specs.Prelude.{◌≡◌, IfOk, IsUtf8};
+ghost use Rattle.std.specs.List.{AllByRecursion};
 ghost use Rattle.dm_list.specs.Answer.{Answers};
 ghost use Rattle.toml.specs.View.{table_view};
-ghost use Rattle.dm_schema.specs.Names.{same_name};
 ghost use Rattle.dm_task.specs.Reading.{is_memory};
 ghost use Rattle.dm_task.specs.TaskFile.{has_table, source_table_in, table_files, has_source, source_in, source_files};
 
@@ -13,8 +12,6 @@ use crate::keys::{
 use crate::place::{Place, path_of, refused};
 use crate::texts::same_text;
 use crate::{Source, SourceTable, TaskCause, TaskFault};
-use dm_list::Bytes;
-use dm_value::Name;
 use std::alloc::Global;
 use toml::Value;
 

@@ -365,7 +365,7 @@ fn takes_utf8_without_a_mark(rt: HostRuntime) -> Result<(), Fail> {
     Ok(())
 }
 
-fn push_number(alloc: Global, out: &mut Vec<u8>, number: u32) -> Result<(), AllocError> {
+fn push_number(alloc: Global, out: &mut Vec<u8>, number: u64) -> Result<(), AllocError> {
     out.push(b' ')?;
     out.extend_from_slice(number.to_string(alloc)?.as_bytes())
 }
@@ -390,7 +390,7 @@ fn push_sources(alloc: Global, out: &mut Vec<u8>, task: &Task) -> Result<(), All
     for source in task.sources.as_slice() {
         out.push(b'\n')?;
         out.extend_from_slice(source.name.as_slice())?;
-        push_number(alloc, out, source.start)?;
+        push_number(alloc, out, u64::from(source.start))?;
         push_names(out, source.binlogs.as_slice())?;
         for table in source.tables.as_slice() {
             out.extend_from_slice(b" (")?;
@@ -413,9 +413,9 @@ fn push_rules(alloc: Global, out: &mut Vec<u8>, task: &Task) -> Result<(), Alloc
         push_table(out, &route.target)?;
     }
     for filter in task.rules.filters.as_slice() {
-        push_number(alloc, out, u32::from(filter.kinds))?;
+        push_number(alloc, out, u64::from(filter.kinds))?;
     }
-    push_number(alloc, out, task.rules.allow.len() as u32)
+    push_number(alloc, out, task.rules.allow.len())
 }
 
 fn push_shards(out: &mut Vec<u8>, shards: &[Shard]) -> Result<(), AllocError> {
@@ -441,10 +441,10 @@ fn push_targets(out: &mut Vec<u8>, targets: &[TableName]) -> Result<(), AllocErr
 fn described(alloc: Global, task: &Task) -> Result<Vec<u8>, AllocError> {
     let mut out = Vec::new(alloc);
     out.extend_from_slice(task.name.as_slice())?;
-    push_number(alloc, &mut out, task.window)?;
-    push_number(alloc, &mut out, task.batch)?;
-    push_number(alloc, &mut out, task.lanes)?;
-    push_number(alloc, &mut out, task.workers)?;
+    push_number(alloc, &mut out, u64::from(task.window))?;
+    push_number(alloc, &mut out, u64::from(task.batch))?;
+    push_number(alloc, &mut out, u64::from(task.lanes))?;
+    push_number(alloc, &mut out, u64::from(task.workers))?;
     push_sources(alloc, &mut out, task)?;
     push_rules(alloc, &mut out, task)?;
     push_shards(&mut out, &shards(alloc, task)?)?;
