@@ -7,8 +7,8 @@ use Rattle.dm_text.specs.Names.{quoted}
 use Rattle.dm_text.specs.Columns.{create_text}
 use Rattle.dm_encode.specs.Dumps.{rows_text, dump_text}
 
-pub dump_joined : (table name : List ℕ) (layout : Layout) (columns : List Column) (rows slice : List (List Value)) (start first last : List ℕ) → name ≡ quoted table → columns ≡ layout.columns → slice ≡ rows → start ≡ []
-    → first ≡ start ++ create_text name layout → last ≡ first ++ rows_text name columns slice → last ≡ dump_text table layout rows
-dump_joined table name layout columns rows slice start first last n c r none e1 e2 =
-    e2 ∙ ap (λ xs. xs ++ rows_text name columns slice) (e1 ∙ ap (λ xs. xs ++ create_text name layout) none)
-    ∙ (λ i. create_text (n i) layout ++ rows_text (n i) (c i) (r i))
+pub dump_joined : (table name again : List ℕ) (layout : Layout) (columns : List Column) (rows slice : List (List Value)) (start first last : List ℕ) → name ≡ quoted table → again ≡ quoted table → columns ≡ layout.columns → slice ≡ rows → start ≡ []
+    → first ≡ start ++ create_text name layout → last ≡ first ++ rows_text again columns slice → last ≡ dump_text table layout rows
+dump_joined table name again layout columns rows slice start first last n m c r none e1 e2 =
+    e2 ∙ ap (λ xs. xs ++ rows_text again columns slice) (e1 ∙ ap (λ xs. xs ++ create_text name layout) none)
+    ∙ (λ i. create_text (n i) layout ++ rows_text (m i) (c i) (r i))

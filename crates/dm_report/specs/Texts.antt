@@ -1,5 +1,5 @@
 -- The text of a table: its columns, its primary key, its unique keys, the number of its rows, and the rows.
-use Rattle.std.specs.Prelude.{ℕ, List, ◌∷◌, ◌++◌, [], codes}
+use Rattle.std.specs.Prelude.{ℕ, List, ◌++◌, codes}
 use Rattle.std.specs.List.{flat_map}
 use Rattle.std.specs.Fmt.{decimal}
 use Rattle.dm_value.specs.declared.value.Value.{Value}

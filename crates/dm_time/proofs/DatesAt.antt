@@ -1,8 +1,8 @@
 -- The date that has so many days before it.
-use Rattle.std.proofs.Common.{◌≡◌, ℕ, zero, suc, ◌+◌, ◌-◌, ◌/◌, ◌<◌, ◌≤◌, nat_lt, Bool, true, false, cond, refl, sym, ◌∙◌, subst, arith}
+use Rattle.std.proofs.Common.{◌≡◌, ℕ, zero, suc, ◌+◌, ◌-◌, ◌<◌, ◌≤◌, nat_lt, Bool, true, false, cond, refl, sym, ◌∙◌, subst, arith}
 use Rattle.std.proofs.lemmas.Bool.Decides.{nat_tests}
 use Rattle.dm_value.specs.declared.value.Day.{Day}
-use Rattle.dm_time.specs.Civil.{is_date, days_in_month, days_before_year, days_before_month, days_before, last_place, year_at, month_at, date_in, date_at}
+use Rattle.dm_time.specs.Civil.{is_date, days_before_year, days_before_month, days_before, last_place, year_at, month_at, date_in, date_at}
 use Rattle.dm_time.proofs.Calendar.{month_more, is_date_from, year_length}
 use Rattle.dm_time.proofs.OneText.{is_day, same_day}
 

@@ -1,4 +1,4 @@
-use Rattle.std.proofs.Common.{◌≡◌, ◌+◌, ◌/◌, ap, refl, arith}
+use Rattle.std.proofs.Common.{◌≡◌, ◌+◌, ◌/◌, refl, arith}
 use Rattle.dm_time.specs.Civil.{date_at}
 use Rattle.dm_time.proofs.DatesAt.{found_date}
 use Rattle.dm_time.proofs.stamps.civil_moment.Goals as goal

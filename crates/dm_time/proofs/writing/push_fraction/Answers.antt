@@ -1,4 +1,4 @@
-use Rattle.std.proofs.Common.{◌-◌, arith}
+use Rattle.std.proofs.Common.{arith}
 use Rattle.std.proofs.Math.Nat.{one-le-pow}
 use Rattle.dm_time.proofs.writing.push_fraction.Goals as goal
 
