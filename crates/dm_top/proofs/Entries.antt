@@ -8,7 +8,7 @@ use Rattle.dm_value.specs.Order.{row_cmp}
 use Rattle.dm_schema.specs.declared.column.Column.{Column}
 use Rattle.dm_schema.specs.Names.{Text}
 use Rattle.dm_schema.specs.Rows.{key_of, values_at}
-use Rattle.dm_dump.specs.declared.dump.Dump.{Dump}
+use Rattle.dm_plain_dump.specs.declared.dump.Dump.{Dump}
 use Rattle.dm_top.specs.Load.{Row, Entry, same_key, keys_of, ordered_names, entry_of}
 use Rattle.dm_top.specs.Merge.{added}
 

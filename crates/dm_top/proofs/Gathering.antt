@@ -2,8 +2,8 @@
 use Rattle.std.proofs.Common.{◌≡◌, ℕ, ◌+◌, ◌<◌, true, false, List, [], ◌∷◌, ◌++◌, length, get_or, drop, Option, Some, None, Result, Ok, Err, refl, sym, ap, ◌∙◌}
 use Rattle.std.proofs.lemmas.List.{at_drop_more}
 use Rattle.dm_schema.specs.Names.{Text}
-use Rattle.dm_dump.specs.declared.dump.Dump.{Dump}
-use Rattle.dm_dump.specs.PlainDump.{IsPlainDump}
+use Rattle.dm_plain_dump.specs.declared.dump.Dump.{Dump}
+use Rattle.dm_plain_dump.specs.PlainDump.{IsPlainDump}
 use Rattle.dm_top.specs.declared.files.NamedFile.{NamedFile}
 use Rattle.dm_top.specs.declared.merge.Merged.{Merged}
 use Rattle.dm_top.specs.declared.merge.MergeFault.{MergeFault}

@@ -14,7 +14,7 @@ use Rattle.std.proofs.lemmas.Map.Entries.{length-values_of}
 use Rattle.dm_value.specs.Order.{row_cmp}
 use Rattle.dm_value.proofs.OrderLemmas.{row_total}
 use Rattle.dm_schema.specs.Names.{repeats}
-use Rattle.dm_dump.specs.declared.dump.Dump.{Dump}
+use Rattle.dm_plain_dump.specs.declared.dump.Dump.{Dump}
 use Rattle.dm_top.specs.Load.{Row, Entry, same_key, keys_of, all_entries, map_of, stand_together, rows_by_key}
 use Rattle.dm_top.proofs.Merging.{key_is_there, repeats_there}
 

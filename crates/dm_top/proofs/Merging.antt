@@ -20,7 +20,7 @@ use Rattle.dm_value.proofs.OrderLemmas.{row_total}
 use Rattle.dm_schema.specs.Layout.{Layout}
 use Rattle.dm_schema.specs.Names.{repeats}
 use Rattle.dm_schema.specs.Schemas.{schema_equal}
-use Rattle.dm_dump.specs.declared.dump.Dump.{Dump}
+use Rattle.dm_plain_dump.specs.declared.dump.Dump.{Dump}
 use Rattle.dm_top.specs.Load.{Row, Entry, same_key, keys_of, entries_of, all_entries, map_of, have_one_schema, stand_together}
 use Rattle.dm_top.specs.Merge.{added, agrees, or_its_schema, IsMerged}
 

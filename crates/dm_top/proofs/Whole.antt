@@ -6,9 +6,9 @@ use Rattle.std.proofs.lemmas.Bool.{cases_lt}
 use Rattle.std.proofs.lemmas.List.{take_all, length-take-le}
 use Rattle.dm_base.specs.Outside.{Files, front_of}
 use Rattle.dm_schema.specs.Names.{Text}
-use Rattle.dm_dump.specs.declared.dump.Dump.{Dump}
-use Rattle.dm_dump.specs.declared.read.TheConstants.{MOST_BYTES}
-use Rattle.dm_dump.specs.PlainDump.{IsPlainDump}
+use Rattle.dm_plain_dump.specs.declared.dump.Dump.{Dump}
+use Rattle.dm_plain_dump.specs.declared.read.TheConstants.{MOST_BYTES}
+use Rattle.dm_plain_dump.specs.PlainDump.{IsPlainDump}
 use Rattle.dm_report.specs.declared.status.Status.TheVariants as status
 use Rattle.dm_top.specs.declared.files.NamedFile.{NamedFile}
 use Rattle.dm_top.specs.Load.{with_first, texts_of, stand_together, Says, Follows, Gathers}

@@ -12,8 +12,8 @@ use Rattle.dm_schema.specs.Names.{Text, column_names, repeats}
 use Rattle.dm_schema.specs.NameOrder.{columns_in_order}
 use Rattle.dm_schema.specs.Rows.{key_of, values_at}
 use Rattle.dm_schema.specs.Schemas.{schema_equal}
-use Rattle.dm_dump.specs.declared.dump.Dump.{Dump}
-use Rattle.dm_dump.specs.PlainDump.{IsPlainDump}
+use Rattle.dm_plain_dump.specs.declared.dump.Dump.{Dump}
+use Rattle.dm_plain_dump.specs.PlainDump.{IsPlainDump}
 use Rattle.dm_report.specs.Texts.{table_text}
 
 -- a row, its values in some order of the columns

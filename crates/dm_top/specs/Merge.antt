@@ -6,12 +6,12 @@ use Rattle.std.specs.BTreeMap.{BTreeMap, insert_entry, values}
 use Rattle.std.specs.List.{list_any}
 use Rattle.dm_value.specs.Order.{row_cmp}
 use Rattle.dm_schema.specs.Layout.{Layout}
-use Rattle.dm_dump.specs.declared.dump.Dump.{Dump}
+use Rattle.dm_plain_dump.specs.declared.dump.Dump.{Dump}
 use Rattle.dm_schema.specs.Names.{Text}
 use Rattle.dm_schema.specs.NameOrder.{columns_in_order}
 use Rattle.dm_report.specs.Texts.{table_text}
 use Rattle.dm_schema.specs.Schemas.{schema_equal}
-use Rattle.dm_dump.specs.PlainDump.{IsPlainDump}
+use Rattle.dm_plain_dump.specs.PlainDump.{IsPlainDump}
 use Rattle.dm_top.specs.declared.files.NamedFile.{NamedFile}
 use Rattle.dm_top.specs.declared.merge.Merged.{Merged}
 use Rattle.dm_top.specs.declared.merge.MergeFault.{MergeFault}

@@ -4,7 +4,7 @@ use Rattle.std.specs.Option.{option_map}
 use Rattle.std.specs.Global.{Vec}
 use Rattle.dm_base.specs.Outside.{Files, front_of}
 use Rattle.dm_schema.specs.Names.{Text}
-use Rattle.dm_dump.specs.declared.read.TheConstants.{MOST_BYTES}
+use Rattle.dm_plain_dump.specs.declared.read.TheConstants.{MOST_BYTES}
 use Rattle.dm_top.specs.declared.files.NamedFile.{NamedFile}
 use Rattle.dm_top.specs.declared.files.ReadFault.{ReadFault}
 use Rattle.dm_top.specs.declared.files.ReadFault.TheVariants as fault

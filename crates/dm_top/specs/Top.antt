@@ -2,7 +2,7 @@
 use Rattle.std.specs.Prelude.{◌≡◌, ◌↔◌, ⊤, Bool, true, false, List, [], Option, None, Result, Ok, Err, IfSome, MatchBool, MatchOption, MatchResult}
 use Rattle.dm_base.specs.Outside.{Files, added, AddsPart}
 use Rattle.dm_schema.specs.Names.{Text}
-use Rattle.dm_dump.specs.declared.dump.Dump.{Dump}
+use Rattle.dm_plain_dump.specs.declared.dump.Dump.{Dump}
 use Rattle.dm_report.specs.declared.status.Status.{Status}
 use Rattle.dm_report.specs.declared.status.Status.TheVariants as status
 use Rattle.dm_report.specs.Faults.{fault_line}

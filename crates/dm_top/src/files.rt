@@ -3,7 +3,7 @@ ghost use Rattle.dm_base.specs.Outside.{Rose};
 ghost use Rattle.dm_top.specs.Reading.{ReadsFile, ReadsFiles, IsMissing};
 
 use dm_base::{Shelf, ShelfError};
-use dm_dump::MOST_BYTES;
+use dm_plain_dump::MOST_BYTES;
 use dm_list::Bytes;
 use std::alloc::{AllocError, AllocFailed, Global};
 

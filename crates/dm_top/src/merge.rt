@@ -1,11 +1,11 @@
 ghost use Rattle.std.specs.Prelude.{◌≡◌, ◌++◌, ◌∷◌, [], List, false, IfOk, MatchBool};
-ghost use Rattle.dm_dump.specs.declared.dump.Dump.{Dump};
+ghost use Rattle.dm_plain_dump.specs.declared.dump.Dump.{Dump};
 ghost use Rattle.dm_top.specs.Load.{stand_together};
 ghost use Rattle.dm_top.specs.Merge.{agrees, or_its_schema, named_texts, IsMerged, MergesFile, MergesFiles};
 
 use crate::files::NamedFile;
 use crate::rows::add_rows;
-use dm_dump::{Dump, read_plain_dump};
+use dm_plain_dump::{Dump, read_plain_dump};
 use dm_list::{Bytes, Copied};
 use dm_schema::Schema;
 use dm_value::Row;

@@ -5,7 +5,7 @@ ghost use Rattle.dm_value.specs.Order.{row_cmp};
 ghost use Rattle.dm_top.specs.Load.{same_key, keys_of, entries_of, ordered_names};
 ghost use Rattle.dm_top.specs.Merge.{added};
 
-use dm_dump::Dump;
+use dm_plain_dump::Dump;
 use dm_list::Copied;
 use dm_schema::{in_name_order, key_of, values_at};
 use dm_value::{Name, Row};

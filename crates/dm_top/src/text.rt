@@ -2,7 +2,7 @@ ghost use Rattle.std.specs.Prelude.{◌≡◌, ◌++◌, IfOk, OnOk, List};
 ghost use Rattle.std.specs.BTreeMap.{values};
 ghost use Rattle.std.specs.List.{flat_map};
 ghost use Rattle.dm_report.specs.Texts.{row_line};
-ghost use Rattle.dm_dump.specs.declared.dump.Dump.{Dump};
+ghost use Rattle.dm_plain_dump.specs.declared.dump.Dump.{Dump};
 ghost use Rattle.dm_top.specs.Load.{merged_text};
 ghost use Rattle.dm_top.specs.Merge.{IsMerged, text_of};
 

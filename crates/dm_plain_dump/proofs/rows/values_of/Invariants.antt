@@ -1,0 +1,10 @@
+use Rattle.std.proofs.Common.{◌≡◌, length}
+use Rattle.dm_plain_dump.specs.Meaning.{values_of}
+use Rattle.dm_plain_dump.proofs.Each.{with_front}
+use Rattle.dm_plain_dump.proofs.rows.values_of.Given as goal
+
+abbrev pub invariant-loop-part : goal.invariant-loop-part
+invariant-loop-part l = with_front l.values.items (values_of l.rest) ≡ values_of l.letters
+
+abbrev pub decreases-loop-part : goal.decreases-loop-part
+decreases-loop-part l = length l.rest
