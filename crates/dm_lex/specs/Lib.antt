@@ -1,4 +1,5 @@
 pub mod Held
 pub mod Lexemes
 pub mod Literals
+pub mod Places
 pub mod Tokens

@@ -6,6 +6,7 @@ mod closing;
 mod hexadecimal;
 mod lengths;
 mod lexeme;
+mod lexer;
 mod lexing;
 mod literals;
 mod numeral;
@@ -14,6 +15,7 @@ mod string;
 mod tests;
 mod token;
 
+pub use lexer::Lexer;
 pub use lexing::tokens;
 pub use literals::literal;
 pub use token::{LexFault, Token, TokenKind};

@@ -1,7 +1,7 @@
 ghost use Rattle.std.specs.Prelude.{◌<◌, ◌^◌, length, IsTrue};
 ghost use Rattle.dm_schema.specs.Kinds.{is_kind};
 
-use crate::{LexFault, TokenKind, literal, tokens};
+use crate::{LexFault, Lexer, Token, TokenKind, literal, tokens};
 use dm_list::Bytes;
 use dm_schema::Kind;
 use dm_value::{Day, Dec, Moment, Stamp, Value};
@@ -75,6 +75,19 @@ fn finds_what_is_not_hexadecimal(rt: HostRuntime) {
 }
 
 /// The value of a text's last token, behind a minus if the first is one.
+#[test]
+fn gives_tokens_one_by_one(rt: HostRuntime) {
+    let mut lexer = Lexer::new(b"a, b 'c", 2);
+    let name = Token {
+        kind: TokenKind::Word,
+        from: 3,
+        to: 4,
+    };
+    assert_eq!(rt; lexer.next_token(), Ok(Some(name)));
+    assert_eq!(rt; lexer.next_token(), Err(LexFault::Open { at: 5 }));
+    assert_eq!(rt; lexer.next_token(), Err(LexFault::Open { at: 5 }));
+}
+
 fn value(alloc: Global, text: &[u8], kind: Kind) -> Result<Option<Value>, Fail>
     requires text { length text.now < 2 ^ 32 }
     requires kind { IsTrue (is_kind kind) }
