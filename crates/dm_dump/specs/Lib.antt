@@ -1,2 +1,4 @@
 pub mod Terminals
 pub mod Productions
+pub mod Literals
+pub mod Orders

@@ -4,8 +4,13 @@
 mod class;
 mod fault;
 mod grammar;
+mod inserts;
 mod kinds;
+mod literal;
+mod order;
 mod role;
 mod terminal;
 
 pub use fault::{DumpCause, DumpFault, Fault};
+pub use inserts::{InsertOrder, Inserts};
+pub use order::row_at;
