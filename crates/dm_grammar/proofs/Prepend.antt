@@ -1,10 +1,9 @@
 use Rattle.std.proofs.Common.{◌≡◌, ℕ, ◌+◌, suc, zero, Bool, true, false, List, [], ◌∷◌, ◌++◌, length, Option, Some, None, refl, sym, ◌∙◌, ap, if◌then◌else◌, ◌==◌, ◌<◌, ◌≤◌, drop, get_or, add-one, arith}
 use Rattle.std.proofs.Math.Seq.{drop-cons}
 use Rattle.std.proofs.lemmas.List.{length-append}
-use Rattle.std.proofs.lemmas.Option.{same_Some}
 use Rattle.dm_grammar.specs.Grammar.{Grammar, Membership, unsupported, Empty, Seq}
 use Rattle.dm_grammar.specs.Determinism.{Next, after, sequence, is_nullable}
-use Rattle.dm_grammar.specs.Reading.{Outcome, with_role, read_next, read_from}
+use Rattle.dm_grammar.specs.Reading.{Outcome, with_role, read_next, read_from, read_behind, Takes}
 use Rattle.dm_grammar.specs.Meaning.{Steps}
 use Rattle.dm_grammar.specs.declared.reader.Fault.TheVariants.{Syntax, Unsupported}
 
@@ -37,50 +36,76 @@ unfolding read_from
 read_from-empty_first has [] g = refl
 read_from-empty_first has (kind ∷ kinds) g = refl
 
-read_next-refused : (next : Next) (taken : Option ℕ) (left : List Grammar) (read : Grammar → Outcome) → taken ≡ None → Steps taken next left → read_next next read ≡ ([], Some (Syntax 0))
-read_next-refused None taken left read e h = refl
-read_next-refused (Some next) taken left read e h = absurd cc
+-- the stack's step, by what reading gives
+pub Steps-takes : (has : Membership) (kind : ℕ) (g : Grammar) (taken : Option ℕ) (left : List Grammar) → Steps taken (after has g kind) left → Takes has kind taken g (sequence left)
+unfolding read_from
+Steps-takes has kind g taken left h kinds = by (after has g kind) h where
+  by : (next : Next) → Steps taken next left → read_next next (read_from has kinds) ≡ read_behind taken (read_from has kinds (sequence left))
+  by None h = ap (λ (o : Option ℕ). read_behind o (read_from has kinds (sequence left))) (sym h)
+  by (Some next) h =
+      ap (λ (rest : List Grammar). read_behind (Some next.0) (read_from has kinds (sequence rest))) (sym h.1)
+      ∙ ap (λ (o : Option ℕ). read_behind o (read_from has kinds (sequence left))) (sym h.0)
 
-read_next-taken : (next : Next) (taken : Option ℕ) (role : ℕ) (left : List Grammar) (read : Grammar → Outcome) → taken ≡ Some role → Steps taken next left → read_next next read ≡ (if role == unsupported then ([], Some (Unsupported 0)) else with_role role (read (sequence left)))
-read_next-taken None taken role left read e h = absurd cc
-read_next-taken (Some next) taken role left read e h =
-    let same : next.0 ≡ role = same_Some next.0 role (sym h.0 ∙ e) in
-    let outcome = λ (r : ℕ) (rest : List Grammar). let made : Outcome = if r == unsupported then ([], Some (Unsupported 0)) else with_role r (read (sequence rest)) in made in
-    ap (λ (z : ℕ). outcome z next.1) same ∙ ap (outcome role) (sym h.1)
+-- no token is left
+pub read_end : (has : Membership) (g : Grammar) → read_from has [] g ≡ (if is_nullable g then ([], None) else ([], Some (Syntax 0)))
+unfolding read_from
+read_end has g = refl
+
+-- What reading gives of all tokens, where those with these roles were read before a token.
+
+pub token_refused : (roles : List ℕ) (before behind all : Outcome) (taken : Option ℕ) → prepend roles before ≡ all → before ≡ read_behind taken behind → taken ≡ None → all ≡ (roles, Some (Syntax (length roles)))
+token_refused roles before behind all taken so_far step none =
+    sym so_far ∙ ap (prepend roles) (step ∙ ap (λ (o : Option ℕ). read_behind o behind) none) ∙ prepend-syntax roles
+
+taken_with : (before behind : Outcome) (taken : Option ℕ) (role : ℕ) (b : Bool) → before ≡ read_behind taken behind → taken ≡ Some role → (role == unsupported) ≡ b → before ≡ (if b then ([], Some (Unsupported 0)) else with_role role behind)
+taken_with before behind taken role b step some e =
+    step ∙ ap (λ (o : Option ℕ). read_behind o behind) some ∙ ap (λ (c : Bool). let made : Outcome = if c then ([], Some (Unsupported 0)) else with_role role behind in made) e
+
+pub token_unsupported : (roles : List ℕ) (before behind all : Outcome) (taken : Option ℕ) (role : ℕ) → prepend roles before ≡ all → before ≡ read_behind taken behind → taken ≡ Some role → (role == unsupported) ≡ true → all ≡ (roles, Some (Unsupported (length roles)))
+token_unsupported roles before behind all taken role so_far step some e =
+    sym so_far ∙ ap (prepend roles) (taken_with before behind taken role true step some e) ∙ prepend-unsupported roles
+
+pub token_taken : (roles : List ℕ) (before behind all : Outcome) (taken : Option ℕ) (role : ℕ) → prepend roles before ≡ all → before ≡ read_behind taken behind → taken ≡ Some role → (role == unsupported) ≡ false → prepend (roles ++ role ∷ []) behind ≡ all
+token_taken roles before behind all taken role so_far step some e =
+    prepend-push roles role behind ∙ sym (ap (prepend roles) (taken_with before behind taken role false step some e)) ∙ so_far
+
+pub tokens_ended : (roles : List ℕ) (has : Membership) (g : Grammar) (all : Outcome) (nullable : Bool) → prepend roles (read_from has [] g) ≡ all → nullable ≡ is_nullable g → all ≡ (if nullable then (roles, None) else (roles, Some (Syntax (length roles))))
+tokens_ended roles has g all nullable so_far e =
+    sym so_far ∙ ap (prepend roles) (read_end has g) ∙ ap (λ (b : Bool). let made : Outcome = if b then ([], None) else ([], Some (Syntax 0)) in prepend roles made) (sym e) ∙ by nullable
+  where
+    by : (b : Bool) → prepend roles (if b then ([], None) else ([], Some (Syntax 0))) ≡ (if b then (roles, None) else (roles, Some (Syntax (length roles))))
+    by true = prepend-end roles
+    by false = prepend-syntax roles
+
+-- The loop over a list of kinds.
+
+-- its invariant: the roles so far, and what reading gives of the rest
+pub record ReadSoFar (has : Membership) (kinds : List ℕ) (at : ℕ) (left : Grammar) (roles : List ℕ) (all : Outcome) : Type 0 where
+  pub placed : length roles ≡ at
+  pub rest : prepend roles (read_from has (drop at kinds) left) ≡ all
 
 -- one token is read
-read_from-drop : (has : Membership) (kinds : List ℕ) (at : ℕ) (g : Grammar) → at < length kinds → read_from has (drop at kinds) g ≡ read_next (after has g (get_or kinds at 0)) (read_from has (drop (at + 1) kinds))
-unfolding read_from
-read_from-drop has kinds at g h =
-    ap (λ (z : List ℕ). read_from has z g) (drop-cons kinds at 0 h) ∙ ap (λ (z : ℕ). read_next (after has g (get_or kinds at 0)) (read_from has (drop z kinds))) (sym (add-one at))
+token_at : (has : Membership) (kinds : List ℕ) (at : ℕ) (taken : Option ℕ) (old new : Grammar) → at < length kinds → Takes has (get_or kinds at 0) taken old new → read_from has (drop at kinds) old ≡ read_behind taken (read_from has (drop (at + 1) kinds) new)
+token_at has kinds at taken old new h takes =
+    ap (λ (z : List ℕ). read_from has z old) (drop-cons kinds at 0 h) ∙ takes (drop (suc at) kinds) ∙ ap (λ (z : ℕ). read_behind taken (read_from has (drop z kinds) new)) (sym (add-one at))
 
--- the loop's invariant: the roles so far, and what reading gives of the rest
-pub record ReadSoFar (has : Membership) (kinds : List ℕ) (at : ℕ) (stack : List Grammar) (roles : List ℕ) (all : Outcome) : Type 0 where
-  pub placed : length roles ≡ at
-  pub rest : prepend roles (read_from has (drop at kinds) (sequence stack)) ≡ all
-
-pub all-refused : (has : Membership) (kinds : List ℕ) (at : ℕ) (stack left : List Grammar) (roles : List ℕ) (all : Outcome) (taken : Option ℕ) → at < length kinds → ReadSoFar has kinds at stack roles all → taken ≡ None → Steps taken (after has (sequence stack) (get_or kinds at 0)) left → all ≡ (roles, Some (Syntax at))
-all-refused has kinds at stack left roles all taken h so_far q s =
-    sym so_far.rest ∙ ap (prepend roles) (read_from-drop has kinds at (sequence stack) h ∙ read_next-refused (after has (sequence stack) (get_or kinds at 0)) taken left (read_from has (drop (at + 1) kinds)) q s) ∙ prepend-syntax roles
+pub all-refused : (has : Membership) (kinds : List ℕ) (at : ℕ) (old new : Grammar) (roles : List ℕ) (all : Outcome) (taken : Option ℕ) → at < length kinds → ReadSoFar has kinds at old roles all → taken ≡ None → Takes has (get_or kinds at 0) taken old new → all ≡ (roles, Some (Syntax at))
+all-refused has kinds at old new roles all taken h so_far q s =
+    token_refused roles (read_from has (drop at kinds) old) (read_from has (drop (at + 1) kinds) new) all taken so_far.rest (token_at has kinds at taken old new h s) q
     ∙ ap (λ (z : ℕ). let made : Outcome = (roles, Some (Syntax z)) in made) so_far.placed
 
-pub all-unsupported : (has : Membership) (kinds : List ℕ) (at : ℕ) (stack left : List Grammar) (roles : List ℕ) (all : Outcome) (taken : Option ℕ) (role : ℕ) → at < length kinds → ReadSoFar has kinds at stack roles all → taken ≡ Some role → (role == unsupported) ≡ true → Steps taken (after has (sequence stack) (get_or kinds at 0)) left → all ≡ (roles, Some (Unsupported at))
-all-unsupported has kinds at stack left roles all taken role h so_far q p s =
-    let next = after has (sequence stack) (get_or kinds at 0) in
-    let read = read_from has (drop (at + 1) kinds) in
-    sym so_far.rest ∙ ap (prepend roles) (read_from-drop has kinds at (sequence stack) h ∙ read_next-taken next taken role left read q s ∙ ap (λ (b : Bool). let made : Outcome = if b then ([], Some (Unsupported 0)) else with_role role (read (sequence left)) in made) p) ∙ prepend-unsupported roles
+pub all-unsupported : (has : Membership) (kinds : List ℕ) (at : ℕ) (old new : Grammar) (roles : List ℕ) (all : Outcome) (taken : Option ℕ) (role : ℕ) → at < length kinds → ReadSoFar has kinds at old roles all → taken ≡ Some role → (role == unsupported) ≡ true → Takes has (get_or kinds at 0) taken old new → all ≡ (roles, Some (Unsupported at))
+all-unsupported has kinds at old new roles all taken role h so_far q p s =
+    token_unsupported roles (read_from has (drop at kinds) old) (read_from has (drop (at + 1) kinds) new) all taken role so_far.rest (token_at has kinds at taken old new h s) q p
     ∙ ap (λ (z : ℕ). let made : Outcome = (roles, Some (Unsupported z)) in made) so_far.placed
 
-pub ReadSoFar-push : (has : Membership) (kinds : List ℕ) (at : ℕ) (stack left : List Grammar) (roles more : List ℕ) (all : Outcome) (taken : Option ℕ) (role : ℕ) → at < length kinds → ReadSoFar has kinds at stack roles all → taken ≡ Some role → (role == unsupported) ≡ false → more ≡ roles ++ role ∷ [] → Steps taken (after has (sequence stack) (get_or kinds at 0)) left → ReadSoFar has kinds (at + 1) left more all
-ReadSoFar-push has kinds at stack left roles more all taken role h so_far q p m s =
-    let next = after has (sequence stack) (get_or kinds at 0) in
-    let read = read_from has (drop (at + 1) kinds) in
+pub ReadSoFar-push : (has : Membership) (kinds : List ℕ) (at : ℕ) (old new : Grammar) (roles more : List ℕ) (all : Outcome) (taken : Option ℕ) (role : ℕ) → at < length kinds → ReadSoFar has kinds at old roles all → taken ≡ Some role → (role == unsupported) ≡ false → more ≡ roles ++ role ∷ [] → Takes has (get_or kinds at 0) taken old new → ReadSoFar has kinds (at + 1) new more all
+ReadSoFar-push has kinds at old new roles more all taken role h so_far q p m s =
     let same : length roles ≡ at = so_far.placed in
+    let behind = read_from has (drop (at + 1) kinds) new in
     record {
       placed = omega (arith, ap length m, length-append roles (role ∷ []));
-      rest =
-          ap (λ (z : List ℕ). prepend z (read (sequence left))) m ∙ prepend-push roles role (read (sequence left))
-          ∙ sym (ap (prepend roles) (read_from-drop has kinds at (sequence stack) h ∙ read_next-taken next taken role left read q s ∙ ap (λ (b : Bool). let made : Outcome = if b then ([], Some (Unsupported 0)) else with_role role (read (sequence left)) in made) p)) ∙ so_far.rest;
+      rest = ap (λ (z : List ℕ). prepend z behind) m ∙ token_taken roles (read_from has (drop at kinds) old) behind all taken role so_far.rest (token_at has kinds at taken old new h s) q p;
     }
 
 drop_past : (xs : List ℕ) (count : ℕ) → length xs ≤ count → drop count xs ≡ []
@@ -89,12 +114,6 @@ drop_past [] (suc count) h = refl
 drop_past (x ∷ xs) zero h = absurd (omega arith)
 drop_past (x ∷ xs) (suc count) h = drop_past xs count (omega arith)
 
-pub all-end : (has : Membership) (kinds : List ℕ) (at : ℕ) (stack : List Grammar) (roles : List ℕ) (all : Outcome) (nullable : Bool) → length kinds ≤ at → ReadSoFar has kinds at stack roles all → nullable ≡ is_nullable (sequence stack) → all ≡ (if nullable then (roles, None) else (roles, Some (Syntax (length roles))))
-unfolding read_from
-all-end has kinds at stack roles all nullable h so_far q =
-    sym so_far.rest ∙ ap (λ (z : List ℕ). prepend roles (read_from has z (sequence stack))) (drop_past kinds at h)
-    ∙ ap (λ (b : Bool). let made : Outcome = if b then ([], None) else ([], Some (Syntax 0)) in prepend roles made) (sym q) ∙ by nullable
-  where
-    by : (b : Bool) → prepend roles (if b then ([], None) else ([], Some (Syntax 0))) ≡ (if b then (roles, None) else (roles, Some (Syntax (length roles))))
-    by true = prepend-end roles
-    by false = prepend-syntax roles
+pub all-end : (has : Membership) (kinds : List ℕ) (at : ℕ) (left : Grammar) (roles : List ℕ) (all : Outcome) (nullable : Bool) → length kinds ≤ at → ReadSoFar has kinds at left roles all → nullable ≡ is_nullable left → all ≡ (if nullable then (roles, None) else (roles, Some (Syntax (length roles))))
+all-end has kinds at left roles all nullable h so_far q =
+    tokens_ended roles has left all nullable (ap (λ (z : List ℕ). prepend roles (read_from has z left)) (sym (drop_past kinds at h)) ∙ so_far.rest) q

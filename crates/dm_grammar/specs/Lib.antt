@@ -3,3 +3,4 @@ pub mod Sentence
 pub mod Determinism
 pub mod Reading
 pub mod Meaning
+pub mod Rests

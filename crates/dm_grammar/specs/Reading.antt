@@ -1,5 +1,5 @@
 -- Reading by derivatives: what the reader computes.
-use Rattle.std.specs.Prelude.{ℕ, suc, ◌==◌, List, [], ◌∷◌, Option, Some, None, if◌then◌else◌}
+use Rattle.std.specs.Prelude.{◌≡◌, ℕ, suc, ◌==◌, List, [], ◌∷◌, Option, Some, None, if◌then◌else◌}
 use Rattle.dm_grammar.specs.Grammar.{Grammar, Membership, unsupported}
 use Rattle.dm_grammar.specs.Determinism.{Next, after, sequence, is_nullable}
 use Rattle.dm_grammar.specs.declared.reader.Fault.{Fault}
@@ -27,3 +27,18 @@ read_next (Some next) read = if next.0 == unsupported then ([], Some (Unsupporte
 unfoldable pub read_from : Membership → List ℕ → Grammar → Outcome
 read_from has [] g = if is_nullable g then ([], None) else ([], Some (Syntax 0))
 read_from has (kind ∷ kinds) g = read_next (after has g kind) (read_from has kinds)
+
+-- Token by token.
+
+-- what reading gives where a token was taken with the role, or was not taken, by what it gives behind the token
+abbrev pub read_behind : Option ℕ → Outcome → Outcome
+read_behind None rest = ([], Some (Syntax 0))
+read_behind (Some role) rest = if role == unsupported then ([], Some (Unsupported 0)) else with_role role rest
+
+-- The token was taken with the role, and whatever comes behind it is read by what is new; or no sentence has it here.
+abbrev pub Takes : Membership → ℕ → Option ℕ → Grammar → Grammar → Type 0
+Takes has kind taken old new = (kinds : List ℕ) → read_from has (kind ∷ kinds) old ≡ read_behind taken (read_from has kinds new)
+
+-- whatever comes is read by both alike
+abbrev pub ReadsAs : Grammar → Grammar → Type 0
+ReadsAs one other = (has : Membership) (kinds : List ℕ) → read_from has kinds one ≡ read_from has kinds other

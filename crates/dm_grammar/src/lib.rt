@@ -11,5 +11,5 @@ mod stack;
 #[cfg(test)]
 mod tests;
 
-pub use reader::{Fault, Reading, read};
+pub use reader::{Fault, Reader, Reading, read};
 pub use rule::{Class, Classes, KIND_LIMIT, Kind, Role, Rule, SKIPPED, UNSUPPORTED};
