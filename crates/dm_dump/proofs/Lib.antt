@@ -1,3 +1,6 @@
 pub mod Ready
 pub mod Small
 pub mod Columns
+pub mod Stream
+pub mod UnitLemmas
+pub mod OutlineLemmas

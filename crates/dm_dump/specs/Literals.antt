@@ -1,5 +1,5 @@
 -- The literals of a row, read from its bracket on, and their values.
-use Rattle.std.specs.Prelude.{ℕ, ◌+◌, ◌^◌, Bool, true, false, ◌==◌, nat_lt, ◌&&◌, List, [], ◌∷◌, length, slice_get, Option, Some, None, option_and_then, if◌then◌else◌}
+use Rattle.std.specs.Prelude.{ℕ, ◌+◌, ◌^◌, Bool, true, false, ◌==◌, nat_lt, ◌&&◌, List, [], ◌∷◌, length, slice_get, Option, Some, None, option_and_then, is_some, if◌then◌else◌}
 use Rattle.std.specs.Option.{option_map, option_map_or}
 use Rattle.dm_value.specs.declared.value.Value.{Value}
 use Rattle.dm_schema.specs.declared.column.Column.{Column}
@@ -75,7 +75,4 @@ values_of text (c ∷ cs) (l ∷ ls) = option_and_then (λ v. option_map (λ vs.
 abbrev pub first_unfit : List ℕ → List Column → List Literal → Option ℕ
 first_unfit text [] ls = None
 first_unfit text (c ∷ cs) [] = None
-first_unfit text (c ∷ cs) (l ∷ ls) = by (value_in text c l) where
-  by : Option Value → Option ℕ
-  by None = Some l.first.from
-  by (Some v) = first_unfit text cs ls
+first_unfit text (c ∷ cs) (l ∷ ls) = if is_some (value_in text c l) then first_unfit text cs ls else Some l.first.from

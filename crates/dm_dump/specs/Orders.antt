@@ -9,7 +9,7 @@ use Rattle.dm_schema.specs.Layout.{Layout}
 use Rattle.dm_schema.specs.Names.{Text, same_name, column_at, column_names}
 use Rattle.dm_schema.specs.Rows.{values_at}
 use Rattle.dm_schema.specs.Schemas.{all_columns, names_repeat}
-use Rattle.dm_dump.specs.Literals.{literals_at, values_of}
+use Rattle.dm_dump.specs.Literals.{has_bracket, literals_at, values_of}
 
 -- each column once: so many names of columns, none of them twice
 abbrev pub is_order : List Column → List Text → Bool
@@ -27,9 +27,13 @@ stand_so columns order = pointwise same_name (column_names columns) order
 abbrev pub in_schema_order : List Column → List Text → List Value → List Value
 in_schema_order columns order values = if stand_so columns order then values else values_at (columns_by columns order) values (column_names columns)
 
--- The row whose bracket stands at a place: a literal for each column, whose value fits.
-abbrev pub row_of : List ℕ → ℕ → List Text → Layout → Option (List Value)
-row_of text at order layout =
-    if is_order layout.columns order
-    then option_map (in_schema_order layout.columns order) (values_of text (columns_by layout.columns order) (literals_at text at))
+-- the values of the row whose bracket stands at a place: of a literal for each column
+abbrev pub values_in : List ℕ → ℕ → List Text → List Column → Option (List Value)
+values_in text at order columns =
+    if has_bracket text at && is_order columns order
+    then option_map (in_schema_order columns order) (values_of text (columns_by columns order) (literals_at text at))
     else None
+
+-- the row whose bracket stands at a place
+abbrev pub row_of : List ℕ → ℕ → List Text → Layout → Option (List Value)
+row_of text at order layout = values_in text at order layout.columns

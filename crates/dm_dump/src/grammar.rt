@@ -1,4 +1,4 @@
-//! The grammar of dumps as a constant; `specs/Productions.antt` has it for people to read.
+//! The grammar of dumps; `specs/Productions.antt` has it for people to read.
 
 use crate::{class, role, terminal};
 use dm_grammar::Rule;
@@ -82,7 +82,7 @@ const CREATE: Rule<'static> = all_of!(
 const STATEMENT: Rule<'static> = optional!(one_of!(PASSED, CREATE, INSERT));
 
 /// The grammar of dumps.
-pub const DUMP_GRAMMAR: Rule<'static> = Rule::Seq(
+pub static DUMP_GRAMMAR: Rule<'static> = Rule::Seq(
     &STATEMENT,
     &Rule::Many(&Rule::Seq(
         &Rule::Word(terminal::SEMICOLON, role::END),

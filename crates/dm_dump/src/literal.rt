@@ -1,4 +1,5 @@
 ghost use Rattle.std.specs.Prelude.{◌≡◌, ◌<◌, ◌^◌, ◌++◌, length, IfOk, IsTrue, if◌then◌else◌};
+ghost use Rattle.std.specs.Bool.{OnTrue};
 ghost use Rattle.std.specs.List.{list_all};
 ghost use Rattle.std.specs.Option.{option_map};
 ghost use Rattle.dm_lex.specs.Literals.{literal_of};
@@ -110,8 +111,9 @@ fn stepped(waiting: Waiting, token: Token, kind: Kind) -> Step
 }
 
 /// Whether a row's bracket stands at the place.
-fn has_bracket(text: &[u8], at: u32) -> bool
-    ensures { result ≡ has_bracket text.now at }
+pub fn has_bracket(text: &[u8], at: u32) -> bool
+    ensures value { result ≡ has_bracket text.now at }
+    ensures small { OnTrue result (length text.now < 2 ^ 32) }
 {
     text.len() < 0x1_0000_0000
         && match text.get(at as usize) {
@@ -235,8 +237,9 @@ pub fn first_unfit(
     let [literal, literals @ ..] = literals else {
         return Ok(None);
     };
-    match value_in(alloc, text, column, literal)? {
-        None => Ok(Some(literal.first.from)),
-        Some(_) => first_unfit(alloc, text, columns, literals),
+    if value_in(alloc, text, column, literal)?.is_some() {
+        first_unfit(alloc, text, columns, literals)
+    } else {
+        Ok(Some(literal.first.from))
     }
 }

@@ -1,11 +1,12 @@
-ghost use Rattle.std.specs.Prelude.{◌≡◌, ◌<◌, ◌^◌, map, length, IfOk, IsTrue};
+ghost use Rattle.std.specs.Prelude.{◌≡◌, IfOk, IsTrue};
+ghost use Rattle.std.specs.Option.{option_map, option_copied};
 ghost use Rattle.std.specs.List.{list_any, list_all};
 ghost use Rattle.dm_schema.specs.Kinds.{is_column};
-ghost use Rattle.dm_schema.specs.Names.{same_name, column_names};
+ghost use Rattle.dm_schema.specs.Names.{same_name, column_at, column_names};
 ghost use Rattle.dm_schema.specs.Schemas.{names_repeat};
-ghost use Rattle.dm_dump.specs.Orders.{is_order, columns_by, stand_so, in_schema_order, row_of};
+ghost use Rattle.dm_dump.specs.Orders.{is_order, columns_by, stand_so, in_schema_order, values_in, row_of};
 
-use crate::literal::{literals_at, push_values};
+use crate::literal::{has_bracket, literals_at, push_values};
 use dm_list::Copied;
 use dm_schema::{Column, Schema, all_columns, values_at};
 use dm_value::{Name, Names, Row, Value};
@@ -44,22 +45,29 @@ pub fn column_names(alloc: Global, columns: &[Column]) -> Result<Vec<Name>, Allo
     Ok(names)
 }
 
+fn column_at<'a>(columns: &'a [Column], name: &Name) -> Option<&'a Column>
+    ensures { option_copied result ≡ column_at columns.now name.now }
+{
+    columns.iter().find(|column| column.name == *name)
+}
+
 /// The columns of these names.
 pub fn columns_by(
     alloc: Global,
-    schema: &Schema,
+    columns: &[Column],
     order: &[Name],
 ) -> Result<Vec<Column>, AllocError>
-    ensures columns { IfOk result (λ columns. columns.items ≡ columns_by schema.now.columns order.now) }
-    ensures formed { IfOk result (λ columns. IsTrue (list_all is_column columns.items)) }
+    requires { IsTrue (list_all is_column columns.now) }
+    ensures columns { IfOk result (λ made. made.items ≡ columns_by columns.now order.now) }
+    ensures formed { IfOk result (λ made. IsTrue (list_all is_column made.items)) }
 {
-    let mut columns = Vec::with_capacity(alloc, order.len())?;
+    let mut made = Vec::with_capacity(alloc, order.len())?;
     for name in order {
-        if let Some(column) = schema.column(name) {
-            columns.push(column.copy(alloc)?)?;
+        if let Some(column) = column_at(columns, name) {
+            made.push(column.copy(alloc)?)?;
         }
     }
-    Ok(columns)
+    Ok(made)
 }
 
 /// Whether columns stand in this order.
@@ -78,18 +86,19 @@ pub fn stand_so(columns: &[Column], order: &[Name]) -> bool
 /// Values that stand in this order, in the order of the schema's columns.
 fn in_schema_order(
     alloc: Global,
-    schema: &Schema,
+    columns: &[Column],
     order: &[Name],
     values: Vec<Value>,
 ) -> Result<Vec<Value>, AllocError>
-    ensures { IfOk result (λ all. all.items ≡ in_schema_order schema.now.columns order.now values.items) }
+    requires { IsTrue (list_all is_column columns.now) }
+    ensures { IfOk result (λ all. all.items ≡ in_schema_order columns.now order.now values.items) }
 {
-    if stand_so(schema.columns(), order) {
+    if stand_so(columns, order) {
         return Ok(values);
     }
-    let columns = columns_by(alloc, schema, order)?;
-    let names = column_names(alloc, schema.columns())?;
-    values_at(alloc, &columns, &values, &names)
+    let ordered = columns_by(alloc, columns, order)?;
+    let names = column_names(alloc, columns)?;
+    values_at(alloc, &ordered, &values, &names)
 }
 
 /// The row whose bracket stands at a place, its literals in this order and its values in the order of the schema's
@@ -104,15 +113,31 @@ pub fn row_at(
 ) -> Result<Option<Row>, AllocError>
     ensures { IfOk result (λ row. row ≡ row_of text.now at order.now schema.now) }
 {
-    let names = order.as_slice();
-    if !is_order(schema.columns(), names) {
+    match values_in(alloc, text, at, order.as_slice(), schema.columns())? {
+        Some(values) => Ok(Some(Row::new(values))),
+        None => Ok(None),
+    }
+}
+
+/// The values of a row in the order of these columns.
+fn values_in(
+    alloc: Global,
+    text: &[u8],
+    at: u32,
+    order: &[Name],
+    columns: &[Column],
+) -> Result<Option<Vec<Value>>, AllocError>
+    requires { IsTrue (list_all is_column columns.now) }
+    ensures { IfOk result (λ row. option_map (λ values. values.items) row ≡ values_in text.now at order.now columns.now) }
+{
+    if !(has_bracket(text, at) && is_order(columns, order)) {
         return Ok(None);
     }
     let literals = literals_at(alloc, text, at)?;
-    let columns = columns_by(alloc, schema, names)?;
-    let mut values = Vec::with_capacity(alloc, columns.len())?;
-    if push_values(alloc, text, &columns, &literals, &mut values)? {
-        Ok(Some(Row::new(in_schema_order(alloc, schema, names, values)?)))
+    let ordered = columns_by(alloc, columns, order)?;
+    let mut values = Vec::with_capacity(alloc, ordered.len())?;
+    if push_values(alloc, text, &ordered, &literals, &mut values)? {
+        Ok(Some(in_schema_order(alloc, columns, order, values)?))
     } else {
         Ok(None)
     }
