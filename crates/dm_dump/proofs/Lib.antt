@@ -4,3 +4,4 @@ pub mod Columns
 pub mod Stream
 pub mod UnitLemmas
 pub mod OutlineLemmas
+pub mod DumpLemmas

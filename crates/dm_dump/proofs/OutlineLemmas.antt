@@ -5,7 +5,11 @@ use Rattle.dm_syntax.specs.declared.piece.Piece.{Piece}
 use Rattle.dm_dump.specs.declared.outline.Span.{Span}
 use Rattle.dm_dump.specs.declared.role.TheConstants as role
 use Rattle.dm_dump.specs.Units.{begins_with, place_of, next_place, is_create}
-use Rattle.dm_dump.specs.Outlines.{place_if, create_place, second_place, insert_place, span_if, create_span}
+use Rattle.dm_dump.specs.Reading.{Contents}
+use Rattle.dm_dump.specs.declared.fault.Fault.{Fault}
+use Rattle.dm_dump.specs.declared.outline.Outline.{Outline}
+use Rattle.dm_dump.specs.Units.{units}
+use Rattle.dm_dump.specs.Outlines.{least, place_if, create_place, second_place, insert_place, span_if, create_span, second_create, outline_of}
 
 pub or_assoc : {A : Type 0} (a b c : Option A) → option_or (option_or a b) c ≡ option_or a (option_or b c)
 or_assoc None b c = refl
@@ -47,3 +51,32 @@ pub second_step : (text : List ℕ) (create found : Option Span) (second later t
 second_step text create found second later total u us all e f l so_far =
     rw (l, created_more create found text (is_create u) u us f)
     (second_moves second (is_some create) (is_create u) u us refl ∙ ap (second_behind second (is_some create)) (sym e) ∙ so_far)
+
+-- Behind the last unit.
+
+pub second_found : (second : Option ℕ) (created : Bool) (left all : Contents) → left.pieces ≡ [] → second_behind second created (units left.pieces) ≡ second_place (units all.pieces) → second ≡ second_place (units all.pieces)
+second_found second created left all none so_far =
+    sym (or_none second) ∙ sym (ends created) ∙ ap (λ (ps : List Piece). second_behind second created (units ps)) (sym none) ∙ so_far
+  where
+    ends : (b : Bool) → second_behind second b [] ≡ option_or second None
+    ends true = refl
+    ends false = refl
+
+pub ending_found : (second : Option ℕ) (created : Bool) (left all : Contents) (ending fault : Option Fault) → left.pieces ≡ [] → second_behind second created (units left.pieces) ≡ second_place (units all.pieces)
+    → ending ≡ all.ending → fault ≡ least (second_create second) ending → fault ≡ least (second_create (second_place (units all.pieces))) all.ending
+ending_found second created left all ending fault none so_far last e =
+    e ∙ ap (λ (s : Option ℕ). least (second_create s) ending) (second_found second created left all none so_far) ∙ ap (least (second_create (second_place (units all.pieces)))) last
+
+pub outline_found : (text : List ℕ) (all left : Contents) (create : Option Span) (second first_insert : Option ℕ) (ending fault : Option Fault) → left.pieces ≡ []
+    → option_or create (create_span text (units left.pieces)) ≡ create_span text (units all.pieces)
+    → second_behind second (is_some create) (units left.pieces) ≡ second_place (units all.pieces)
+    → option_or first_insert (insert_place (units left.pieces)) ≡ insert_place (units all.pieces)
+    → ending ≡ all.ending → fault ≡ least (second_create second) ending
+    → (let made : Outline = record { create = create; first_insert = first_insert; fault = fault } in made) ≡ outline_of text all
+outline_found text all left create second first_insert ending fault none c s i last e =
+    let creates : create ≡ create_span text (units all.pieces) = sym (or_none create) ∙ ap (λ (ps : List Piece). option_or create (create_span text (units ps))) (sym none) ∙ c in
+    let inserts : first_insert ≡ insert_place (units all.pieces) = sym (or_none first_insert) ∙ ap (λ (ps : List Piece). option_or first_insert (insert_place (units ps))) (sym none) ∙ i in
+    let faults : fault ≡ least (second_create (second_place (units all.pieces))) all.ending = ending_found second (is_some create) left all ending fault none s last e in
+    ap (λ (o : Option Span). let made : Outline = record { create = o; first_insert = first_insert; fault = fault } in made) creates
+    ∙ ap (λ (o : Option ℕ). let made : Outline = record { create = create_span text (units all.pieces); first_insert = o; fault = fault } in made) inserts
+    ∙ ap (λ (o : Option Fault). let made : Outline = record { create = create_span text (units all.pieces); first_insert = insert_place (units all.pieces); fault = o } in made) faults

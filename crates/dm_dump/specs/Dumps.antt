@@ -3,6 +3,7 @@ use Rattle.std.specs.Prelude.{◌≡◌, ⊤, ℕ, ◌-◌, Bool, true, false, �
 use Rattle.std.specs.Option.{option_map}
 use Rattle.dm_schema.specs.Layout.{Layout}
 use Rattle.dm_syntax.specs.declared.fault.DdlFault.{DdlFault}
+use Rattle.dm_syntax.specs.declared.fault.DdlFault.TheVariants as ddl
 use Rattle.dm_syntax.specs.declared.parsing.Extent.TheVariants as extent
 use Rattle.dm_syntax.specs.Parsing.{Says}
 use Rattle.dm_ddl.specs.declared.statements.Statement.{Statement}
@@ -82,6 +83,15 @@ created_by (Ok (statement.Create table schema only_new)) = Some (record { table 
 created_by (Ok (statement.Alter table changes)) = None
 created_by (Ok statement.Other) = None
 created_by (Err e) = None
+
+-- the same, where reading the statement may have lacked memory
+abbrev pub created_or_memory : Result Statement DdlFault → Result (Option Created) DumpFault
+created_or_memory (Ok statement) = Ok (created_by (Ok statement))
+created_or_memory (Err ddl.Memory) = Err fault.Memory
+created_or_memory (Err (ddl.Lex at)) = Ok None
+created_or_memory (Err (ddl.Syntax at)) = Ok None
+created_or_memory (Err (ddl.Unsupported at)) = Ok None
+created_or_memory (Err (ddl.Made e)) = Ok None
 
 -- what the statement says, by its grammar
 abbrev pub SaysCreate : List ℕ → Option Created → Type 0

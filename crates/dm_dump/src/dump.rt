@@ -1,6 +1,6 @@
 ghost use Rattle.std.specs.Prelude.{◌≡◌, ◌<◌, ◌^◌, length, IfOk, IfErr, Some};
 ghost use Rattle.dm_dump.specs.declared.fault.DumpFault.TheVariants.{Memory};
-ghost use Rattle.dm_dump.specs.Dumps.{OrMemory, bytes_in, lower, precedes, early_insert, without_create, is_lex, tears, create_fault, without_schema, SaysCreate, HasTable, DumpWith, IsDump};
+ghost use Rattle.dm_dump.specs.Dumps.{OrMemory, bytes_in, lower, precedes, early_insert, without_create, is_lex, tears, create_fault, without_schema, created_or_memory, SaysCreate, dump_of, HasTable, DumpBy, DumpWith, IsDump};
 
 use crate::fault::{DumpCause, DumpFault, Fault};
 use crate::inserts::Inserts;
@@ -134,17 +134,14 @@ fn without_schema(outline: &Outline, span: Span) -> Fault
 }
 
 /// The table that a statement creates, if it does.
-fn read_create(alloc: Global, text: &[u8]) -> Result<Option<Created>, DumpFault>
-    requires { length text.now < 2 ^ 32 }
-    ensures says { IfOk result (λ created. SaysCreate text.now created) }
-    ensures memory { IfErr result (λ fault. fault ≡ Memory) }
+fn created_by(said: Result<Statement, DdlFault>) -> Result<Option<Created>, DumpFault>
+    ensures { result ≡ created_or_memory said }
 {
-    match read_statement(alloc, text) {
-        Ok(Statement::Create {
-            table: Named { table, .. },
-            schema,
-            ..
-        }) => Ok(Some(Created { table, schema })),
+    match said {
+        Ok(Statement::Create { table, schema, .. }) => {
+            let Named { table, .. } = table;
+            Ok(Some(Created { table, schema }))
+        }
         Ok(Statement::Alter { .. }) => Ok(None),
         Ok(Statement::Other) => Ok(None),
         Err(DdlFault::Memory) => Err(DumpFault::Memory),
@@ -155,7 +152,39 @@ fn read_create(alloc: Global, text: &[u8]) -> Result<Option<Created>, DumpFault>
     }
 }
 
-/// The rows of a table, unless an INSERT comes before the CREATE TABLE.
+fn read_create(alloc: Global, text: &[u8]) -> Result<Option<Created>, DumpFault>
+    requires { length text.now < 2 ^ 32 }
+    ensures says { IfOk result (λ created. SaysCreate text.now created) }
+    ensures memory { IfErr result (λ fault. fault ≡ Memory) }
+{
+    created_by(read_statement(alloc, text))
+}
+
+/// The rows of a table that was created, unless an INSERT comes before.
+fn dump_of(
+    early: Option<Fault>,
+    created: Created,
+    rows: Result<Inserts, DumpFault>,
+) -> Result<Dump, DumpFault>
+    ensures { result ≡ dump_of early created rows }
+{
+    match rows {
+        Err(DumpFault::Memory) => Err(DumpFault::Memory),
+        Err(DumpFault::At { at, cause }) => Err(refused(lower(early, Fault { at, cause }))),
+        Ok(inserts) => {
+            let Created { table, schema } = created;
+            match early {
+                Some(fault) => Err(refused(fault)),
+                None => Ok(Dump {
+                    table,
+                    schema,
+                    inserts,
+                }),
+            }
+        }
+    }
+}
+
 fn with_rows(
     alloc: Global,
     text: &[u8],
@@ -165,22 +194,27 @@ fn with_rows(
     requires { length text.now < 2 ^ 32 }
     ensures { OrMemory (HasTable text.now early created) result }
 {
-    let Created { table, schema } = created;
-    match read_rows(alloc, text, &table, &schema) {
-        Err(DumpFault::Memory) => Err(DumpFault::Memory),
-        Err(DumpFault::At { at, cause }) => Err(refused(lower(early, Fault { at, cause }))),
-        Ok(inserts) => match early {
-            Some(fault) => Err(refused(fault)),
-            None => Ok(Dump {
-                table,
-                schema,
-                inserts,
-            }),
-        },
+    let rows = read_rows(alloc, text, &created.table, &created.schema);
+    dump_of(early, created, rows)
+}
+
+fn dump_by(
+    alloc: Global,
+    text: &[u8],
+    outline: &Outline,
+    span: Span,
+    created: Option<Created>,
+) -> Result<Dump, DumpFault>
+    requires { length text.now < 2 ^ 32 }
+    ensures { OrMemory (DumpBy text.now outline.now span created) result }
+{
+    match created {
+        None => Err(refused(without_schema(outline, span))),
+        Some(created) => with_rows(alloc, text, early_insert(outline), created),
     }
 }
 
-fn dump_with(
+fn dump_in(
     alloc: Global,
     text: &[u8],
     outline: &Outline,
@@ -189,9 +223,22 @@ fn dump_with(
     requires { length text.now < 2 ^ 32 }
     ensures { OrMemory (DumpWith text.now outline.now (Some span)) result }
 {
-    match read_create(alloc, bytes_in(text, span))? {
-        None => Err(refused(without_schema(outline, span))),
-        Some(created) => with_rows(alloc, text, early_insert(outline), created),
+    let created = read_create(alloc, bytes_in(text, span))?;
+    dump_by(alloc, text, outline, span, created)
+}
+
+fn dump_with(
+    alloc: Global,
+    text: &[u8],
+    outline: &Outline,
+    create: Option<Span>,
+) -> Result<Dump, DumpFault>
+    requires { length text.now < 2 ^ 32 }
+    ensures { OrMemory (DumpWith text.now outline.now create) result }
+{
+    match create {
+        None => Err(refused(without_create(text, outline))),
+        Some(span) => dump_in(alloc, text, outline, span),
     }
 }
 
@@ -201,8 +248,5 @@ pub fn read_dump(alloc: Global, text: &[u8]) -> Result<Dump, DumpFault>
     ensures { OrMemory (IsDump text.now) result }
 {
     let outline = read_outline(alloc, text)?;
-    match outline.create {
-        None => Err(refused(without_create(text, &outline))),
-        Some(span) => dump_with(alloc, text, &outline, span),
-    }
+    dump_with(alloc, text, &outline, outline.create)
 }

@@ -1,7 +1,4 @@
-ghost use Rattle.std.specs.Prelude.{◌≡◌, Some, None};
-ghost use Rattle.dm_dump.specs.declared.fault.DumpFault.TheVariants.{Memory};
-
-use std::alloc::AllocFailed;
+use std::alloc::AllocError;
 
 /// Why a text is no dump.
 #[derive(Clone, Copy, Debug, PartialEq, Eq)]
@@ -40,10 +37,13 @@ pub enum DumpFault {
     Memory,
 }
 
-impl<T: Drop> From<AllocFailed<T>> for DumpFault {
-    ghost from_gives = { λ _ e. e ≡ Memory };
+impl From<AllocError> for DumpFault {
+    ghost use Rattle.std.specs.Prelude.{◌≡◌};
+    ghost use Rattle.dm_dump.specs.declared.fault.DumpFault.TheVariants.{Memory};
 
-    fn from(_: AllocFailed<T>) -> DumpFault {
+    ghost from_gives = { λ _ fault. fault ≡ Memory };
+
+    fn from(_error: AllocError) -> DumpFault {
         DumpFault::Memory
     }
 }

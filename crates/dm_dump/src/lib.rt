@@ -22,6 +22,8 @@ mod row;
 mod source;
 mod stopping;
 mod terminal;
+#[cfg(test)]
+mod tests;
 mod unit;
 
 pub use dump::{Dump, read_dump};

@@ -73,7 +73,7 @@ impl<'a> Units<'a> {
     pub fn next_unit(&mut self, unit: &mut Vec<Piece>) -> Result<bool, AllocError>
         ensures units { IfOk result (λ found. MatchBool found
             (units (units_left self.old).pieces ≡ unit.new.items ∷ units (units_left self.new).pieces)
-            ((units_left self.old).pieces ≡ [])) }
+            (((units_left self.old).pieces ≡ []) × ((units_left self.new).pieces ≡ []))) }
         ensures ending { IfOk result (λ _. (units_left self.new).ending ≡ (units_left self.old).ending) }
         ensures text { IfOk result (λ _. self.new.source.text.now ≡ self.old.source.text.now) }
     {

@@ -1,9 +1,8 @@
-use Rattle.std.proofs.Common.{sym}
+use Rattle.std.proofs.Common.{refl}
 use Rattle.std.proofs.lemmas.Bool.{eq-eqb, ne_eqb}
 use Rattle.dm_grammar.specs.Rests.{left}
 use Rattle.dm_lex.specs.Tokens.{lexed}
 use Rattle.dm_dump.proofs.Stream.{piece_taken, token_refused, token_unsupported}
-use Rattle.std.proofs.Common.{refl}
 use Rattle.dm_dump.proofs.source.Source.take.Goals as goal
 
 pub returns-in-None-clause-reads : goal.returns-in-None-clause-reads
@@ -20,5 +19,5 @@ returns-in-Some-eq0-clause-reads c =
 pub returns-in-Some-clause-reads : goal.returns-in-Some-clause-reads
 returns-in-Some-clause-reads c =
     let s = c.args.self.now in
-    (piece_taken s.text.now s.begun c.begun_behind.result c.args.token (lexed s.lexer) (left s.reader) (left c.take.new.self) c.in_ok-take.field-0 c.terminal_of-kind.result c.in-Some.role c.terminal_of-kind.ensures c.in_ok-take.ensures c.in-Some.is
-    (ne_eqb c.in-Some.role 0 c.in-Some.role-test.1) c.begun_behind.ensures, refl)
+    (piece_taken s.text.now s.begun c.begun_behind-self.result c.args.token (lexed s.lexer) (left s.reader) (left c.take.new.self) c.in_ok-take.field-0 c.terminal_of-kind.result c.in-Some.role c.terminal_of-kind.ensures c.in_ok-take.ensures c.in-Some.is
+    (ne_eqb c.in-Some.role 0 c.in-Some.role-test.1) c.begun_behind-self.ensures, refl)
