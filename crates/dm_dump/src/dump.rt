@@ -214,12 +214,7 @@ fn dump_by(
     }
 }
 
-fn dump_in(
-    alloc: Global,
-    text: &[u8],
-    outline: &Outline,
-    span: Span,
-) -> Result<Dump, DumpFault>
+fn dump_in(alloc: Global, text: &[u8], outline: &Outline, span: Span) -> Result<Dump, DumpFault>
     requires { length text.now < 2 ^ 32 }
     ensures { OrMemory (DumpWith text.now outline.now (Some span)) result }
 {

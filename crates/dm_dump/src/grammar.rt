@@ -84,8 +84,5 @@ const STATEMENT: Rule<'static> = optional!(one_of!(PASSED, CREATE, INSERT));
 /// The grammar of dumps.
 pub static DUMP_GRAMMAR: Rule<'static> = Rule::Seq(
     &STATEMENT,
-    &Rule::Many(&Rule::Seq(
-        &Rule::Word(terminal::SEMICOLON, role::END),
-        &STATEMENT,
-    )),
+    &Rule::Many(&Rule::Seq(&Rule::Word(terminal::SEMICOLON, role::END), &STATEMENT)),
 );

@@ -54,12 +54,7 @@ fn has_whole_name(unit: &[Piece]) -> bool
     has_role(unit, role::NAMES_OPEN) || has_role(unit, role::VALUES)
 }
 
-fn names_other(
-    alloc: Global,
-    text: &[u8],
-    table: &Name,
-    unit: &[Piece],
-) -> Result<bool, AllocError>
+fn names_other(alloc: Global, text: &[u8], table: &Name, unit: &[Piece]) -> Result<bool, AllocError>
     ensures { IfOk result (λ other. other ≡ names_other text.now table.now unit.now) }
 {
     if has_whole_name(unit) {

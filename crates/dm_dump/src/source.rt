@@ -1,9 +1,9 @@
 ghost use Rattle.std.specs.Prelude.{◌≡◌, ◌<◌, ◌^◌, length, IfOk};
 
 use crate::fault::Fault;
-use crate::stopping::{begun_behind, fault_in_statement, lexical, statement_fault};
 use crate::grammar::DUMP_GRAMMAR;
 use crate::kinds::{DumpClasses, terminal_of};
+use crate::stopping::{begun_behind, fault_in_statement, lexical, statement_fault};
 use crate::{role, terminal};
 use dm_grammar::{Kind, Reader, UNSUPPORTED};
 use dm_lex::{LexFault, Lexer, Token};

@@ -1,6 +1,8 @@
 mod tables;
 
-use crate::{Dump, DumpCause, DumpFault, Fault, InsertOrder, Outline, Span, read_dump, read_outline, row_at};
+use crate::{
+    Dump, DumpCause, DumpFault, Fault, InsertOrder, Outline, Span, read_dump, read_outline, row_at,
+};
 use dm_schema::Schema;
 use dm_value::{Names, Row, Value};
 use std::alloc::{AllocError, Global};
@@ -59,12 +61,7 @@ fn push_row_at(
     }
 }
 
-fn push_rows(
-    alloc: Global,
-    out: &mut Vec<u8>,
-    text: &[u8],
-    dump: &Dump,
-) -> Result<(), AllocError> {
+fn push_rows(alloc: Global, out: &mut Vec<u8>, text: &[u8], dump: &Dump) -> Result<(), AllocError> {
     let orders = dump.inserts.orders.as_slice();
     for place in dump.inserts.places.as_slice() {
         if let Some(order) = order_at(orders, *place) {

@@ -12,7 +12,7 @@ invariant-loop-unit l = record {
   second : second_behind l.second (is_some l.create) (units (units_left l.units).pieces) ≡ second_place (units (all_contents l.text).pieces);
   first_insert : option_or l.first_insert (insert_place (units (units_left l.units).pieces)) ≡ insert_place (units (all_contents l.text).pieces);
   ending : (units_left l.units).ending ≡ (all_contents l.text).ending;
-  text : l.units.source.text.now ≡ l.text
+  text : l.units.source.text.now ≡ l.text;
 }
 
 abbrev pub decreases-loop-unit : goal.decreases-loop-unit

@@ -11,7 +11,7 @@ abbrev pub invariant-loop-rows : goal.invariant-loop-rows
 invariant-loop-rows l = record {
   rows : fold (with_unit l.text l.table l.columns) (gathered_in l.rows) (units (units_left l.units).pieces) ≡ gathered l.text l.table l.columns (units (all_contents l.text).pieces);
   second : second_behind l.second l.created (units (units_left l.units).pieces) ≡ second_place (units (all_contents l.text).pieces);
-  ending : (units_left l.units).ending ≡ (all_contents l.text).ending
+  ending : (units_left l.units).ending ≡ (all_contents l.text).ending;
 }
 
 abbrev pub decreases-loop-rows : goal.decreases-loop-rows

@@ -6,7 +6,7 @@ use Rattle.dm_dump.proofs.stopping.fault_in_statement.Given as goal
 abbrev pub invariant-loop-token : goal.invariant-loop-token
 invariant-loop-token l = record {
   value : fault_in_statement l.text (lexed l.lexer).tokens (lexed l.lexer).fault ≡ fault_in_statement l.text (lexed l.initial.lexer).tokens (lexed l.initial.lexer).fault;
-  text : l.lexer.text ≡ l.initial.lexer.text
+  text : l.lexer.text ≡ l.initial.lexer.text;
 }
 
 abbrev pub decreases-loop-token : goal.decreases-loop-token

@@ -18,6 +18,8 @@ returns-in-Some-eq0-clause-reads c =
 
 pub returns-in-Some-clause-reads : goal.returns-in-Some-clause-reads
 returns-in-Some-clause-reads c =
-    let s = c.args.self.now in
-    (piece_taken s.text.now s.begun c.begun_behind-self.result c.args.token (lexed s.lexer) (left s.reader) (left c.take.new.self) c.in_ok-take.field-0 c.terminal_of-kind.result c.in-Some.role c.terminal_of-kind.ensures c.in_ok-take.ensures c.in-Some.is
-    (ne_eqb c.in-Some.role 0 c.in-Some.role-test.1) c.begun_behind-self.ensures, refl)
+    let s = c.args.self.now in (
+      piece_taken s.text.now s.begun c.begun_behind-self.result c.args.token (lexed s.lexer) (left s.reader) (left c.take.new.self) c.in_ok-take.field-0 c.terminal_of-kind.result c.in-Some.role c.terminal_of-kind.ensures c.in_ok-take.ensures c.in-Some.is
+          (ne_eqb c.in-Some.role 0 c.in-Some.role-test.1) c.begun_behind-self.ensures,
+      refl,
+    )

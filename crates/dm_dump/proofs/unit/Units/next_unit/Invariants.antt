@@ -8,7 +8,7 @@ abbrev pub invariant-loop-self : goal.invariant-loop-self
 invariant-loop-self l = record {
   gathered : units_from l.unit.items (units_left l.self).pieces ≡ units (units_left l.fn.self).pieces;
   ending : (units_left l.self).ending ≡ (units_left l.fn.self).ending;
-  text : l.self.source.text.now ≡ l.fn.self.source.text.now
+  text : l.self.source.text.now ≡ l.fn.self.source.text.now;
 }
 
 abbrev pub decreases-loop-self : goal.decreases-loop-self
