@@ -17,7 +17,8 @@ use Rattle.dm_ddl.specs.declared.keys.WrittenKey.{WrittenKey}
 use Rattle.dm_syntax.specs.declared.piece.Piece.{Piece}
 use Rattle.dm_syntax.specs.declared.role.TheConstants as role
 use Rattle.dm_syntax.specs.Pieces.{has_role}
-use Rattle.dm_ddl.specs.Names.{folded_name, folded_with, name_of}
+use Rattle.dm_syntax.specs.Names.{folded_with}
+use Rattle.dm_syntax.proofs.Folding.{with_folded, names_folded}
 use Rattle.dm_ddl.specs.Bounds.{excess_in, first_excess}
 use Rattle.dm_ddl.specs.Types.{type_word, kind_in}
 use Rattle.dm_ddl.specs.Columns.{last_default, nullable_in, column_name, column_in, default_in, is_unfit}
@@ -33,7 +34,7 @@ use Rattle.dm_schema.specs.declared.change.Change.TheVariants as change
 use Rattle.dm_schema.specs.declared.fault.EffectFault.{EffectFault}
 use Rattle.dm_schema.specs.declared.fault.EffectFault.TheVariants as fault
 use Rattle.dm_ddl.specs.Altering.{is_added, spot_in, null_written, column_refusals, column_change, added_key, column_changes, key_drop, default_text, other_change, if_some, changes_of, changes_in}
-use Rattle.dm_ddl.proofs.Formed.{lower_folded, with_folded, rule_formed, column_formed}
+use Rattle.dm_ddl.proofs.Formed.{rule_formed, column_formed}
 use Rattle.dm_ddl.proofs.Ranges.{kind_formed}
 
 -- Columns.
@@ -78,10 +79,6 @@ columns_step text primary before after column rest item items all a b e made h =
 -- a key of which one can be made when it has its name
 abbrev pub is_written : WrittenKey → Bool
 is_written k = is_key k.key && list_all is_folded k.key.columns
-
-names_folded : (text : List ℕ) (pieces : List Piece) → list_all is_folded (map (folded_name text) pieces) ≡ true
-names_folded text [] = refl
-names_folded text (p ∷ ps) = rw (lower_folded (name_of text p.token)) (names_folded text ps)
 
 name_folded : (text : List ℕ) (item : List Piece) → is_folded (key_name text item) ≡ true
 name_folded text item = by (has_role role.KEY_NAME item) refl where

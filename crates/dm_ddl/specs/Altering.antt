@@ -14,7 +14,7 @@ use Rattle.dm_ddl.specs.declared.keys.WrittenKey.{WrittenKey}
 use Rattle.dm_syntax.specs.declared.piece.Piece.{Piece}
 use Rattle.dm_syntax.specs.declared.role.TheConstants as role
 use Rattle.dm_syntax.specs.Pieces.{bytes_of, first_with, has_role}
-use Rattle.dm_ddl.specs.Names.{folded_with}
+use Rattle.dm_syntax.specs.Names.{folded_with}
 use Rattle.dm_ddl.specs.Columns.{column_in, column_name, is_primary_column}
 use Rattle.dm_ddl.specs.Keys.{unique_keys}
 

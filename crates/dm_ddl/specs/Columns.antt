@@ -10,7 +10,7 @@ use Rattle.dm_lex.specs.Literals.{literal_of}
 use Rattle.dm_syntax.specs.declared.piece.Piece.{Piece}
 use Rattle.dm_syntax.specs.declared.role.TheConstants as role
 use Rattle.dm_syntax.specs.Pieces.{bytes_of, first_with, has_role, begins, parts}
-use Rattle.dm_ddl.specs.Names.{folded_with}
+use Rattle.dm_syntax.specs.Names.{folded_with}
 use Rattle.dm_ddl.specs.Types.{kind_in}
 
 -- the value that a literal has for a kind

@@ -4,7 +4,7 @@ use Rattle.dm_ddl.specs.declared.keys.WrittenKey.{WrittenKey}
 use Rattle.dm_syntax.specs.declared.piece.Piece.{Piece}
 use Rattle.dm_syntax.specs.declared.role.TheConstants as role
 use Rattle.dm_syntax.specs.Pieces.{has_role}
-use Rattle.dm_ddl.specs.Names.{folded_with, all_folded_with}
+use Rattle.dm_syntax.specs.Names.{folded_with, all_folded_with}
 use Rattle.dm_ddl.specs.Columns.{column_name, is_primary_column}
 
 -- the columns of a key

@@ -6,10 +6,10 @@ ghost use Rattle.dm_schema.specs.Effect.{is_among, rule_by};
 ghost use Rattle.dm_ddl.specs.Bounds.{excess_in};
 ghost use Rattle.dm_ddl.specs.Columns.{literal_in, last_default, rule_in, nullable_in, column_name, default_in, is_unfit, column_in, is_primary_column};
 
-use crate::names::folded_with;
 use crate::types::kind_in;
 use dm_lex::{Token, literal};
 use dm_schema::{Column, DefaultRule, Kind};
+use dm_syntax::names::folded_with;
 use dm_syntax::{Piece, bytes_of, first_with, has_role, next_part, role};
 use dm_value::{Name, Value};
 use std::alloc::{AllocError, Global};

@@ -3,8 +3,8 @@ ghost use Rattle.std.specs.List.{list_all};
 ghost use Rattle.dm_ddl.specs.Keys.{key_parts, key_name, is_named, key_over, key_of_column, unique_keys, primary_keys};
 
 use crate::columns::{column_name, is_primary_column};
-use crate::names::{all_folded_with, folded_with};
 use dm_schema::UniqueKey;
+use dm_syntax::names::{all_folded_with, folded_with};
 use dm_syntax::{Piece, has_role, role};
 use dm_value::{Name, Names};
 use std::alloc::{AllocError, Global};

@@ -1,5 +1,7 @@
-pub mod PartsLemmas
-pub mod Numbers
-pub mod Each
-pub mod Formed
-pub mod Reading
+pub mod Ready
+pub mod Small
+pub mod Columns
+pub mod Stream
+pub mod UnitLemmas
+pub mod OutlineLemmas
+pub mod DumpLemmas

@@ -1,4 +1,11 @@
-pub mod Letters
+pub mod Terminals
+pub mod Productions
+pub mod Reading
+pub mod Streams
+pub mod Units
+pub mod Outlines
 pub mod Literals
-pub mod Meaning
-pub mod PlainDump
+pub mod Orders
+pub mod Rows
+pub mod Gatherings
+pub mod Dumps

@@ -1,54 +1,78 @@
--- The values of literals, and of the numbers and strings in them.
-use Rattle.std.specs.Prelude.{ℕ, ℤ, pos, neg_ℤ, ◌+◌, ◌-◌, ◌*◌, ◌^◌, nat_lt, ◌==◌, Bool, true, false, List, [], ◌∷◌, fold, Option, Some, None, if◌then◌else◌}
-use Rattle.std.specs.List.{flat_map}
+-- The literals of a row, read from its bracket on, and their values.
+use Rattle.std.specs.Prelude.{ℕ, ◌+◌, ◌^◌, Bool, true, false, ◌==◌, nat_lt, ◌&&◌, List, [], ◌∷◌, length, slice_get, Option, Some, None, option_and_then, is_some, if◌then◌else◌}
+use Rattle.std.specs.Option.{option_map, option_map_or}
 use Rattle.dm_value.specs.declared.value.Value.{Value}
-use Rattle.dm_value.specs.declared.value.Value.TheVariants as value
-use Rattle.dm_dump.specs.declared.letters.Letter.{Letter}
-use Rattle.dm_dump.specs.declared.roles.TheConstants.{NULL_WORD, MINUS, DIGIT, STRING, CHARACTER, ESCAPED, DOUBLED}
-use Rattle.dm_dump.specs.Letters.{bytes_with, has_role}
+use Rattle.dm_schema.specs.declared.column.Column.{Column}
+use Rattle.dm_schema.specs.Fits.{fits}
+use Rattle.dm_lex.specs.declared.token.Token.{Token}
+use Rattle.dm_lex.specs.Tokens.{LexerState, lexed}
+use Rattle.dm_lex.specs.Literals.{literal_of}
+use Rattle.dm_syntax.specs.Pieces.{bytes_of}
+use Rattle.dm_dump.specs.declared.literal.Literal.{Literal}
+use Rattle.dm_dump.specs.declared.literal.Waiting.{Waiting}
+use Rattle.dm_dump.specs.declared.literal.Waiting.TheVariants as waiting
+use Rattle.dm_dump.specs.declared.literal.Step.{Step}
+use Rattle.dm_dump.specs.declared.literal.Step.TheVariants as step
+use Rattle.dm_dump.specs.declared.terminal.TheConstants as terminal
+use Rattle.dm_dump.specs.Terminals.{terminal_of}
 
--- a number with a further ASCII digit behind it
-abbrev pub with_digit : ℕ → ℕ → ℕ
-with_digit n d = 10 * n + (d - 48)
+-- a token that is a literal by itself
+abbrev pub is_literal : ℕ → Bool
+is_literal kind =
+    if kind == terminal.NUMBER then true
+    else if kind == terminal.STRING then true
+    else if kind == terminal.HEXADECIMAL then true
+    else kind == terminal.TRUTH
 
--- the number that ASCII digits write in base ten
-abbrev pub number_of : List ℕ → ℕ
-number_of digits = fold with_digit 0 digits
+-- a literal that begins at this token, or what is to come behind it
+abbrev pub begun_with : Token → ℕ → Step
+begun_with t kind =
+    if is_literal kind then step.Found (record { first = t; minus = false; value = t })
+    else if kind == terminal.MINUS then step.On (waiting.Number t)
+    else if kind == terminal.INTRODUCER then step.On (waiting.Text t)
+    else step.Stop
 
--- What a backslash and a byte stand for in a string: MySQL's escapes. `\%` and `\_` stay two characters, and any other
--- byte stands for itself.
-abbrev pub unescaped : ℕ → List ℕ
-unescaped b =
-    if b == 48 then 0 ∷ []
-    else if b == 98 then 8 ∷ []
-    else if b == 110 then 10 ∷ []
-    else if b == 114 then 13 ∷ []
-    else if b == 116 then 9 ∷ []
-    else if b == 90 then 26 ∷ []
-    else if b == 37 then 92 ∷ 37 ∷ []
-    else if b == 95 then 92 ∷ 95 ∷ []
-    else b ∷ []
+-- what a token is, by what may stand there
+abbrev pub stepped : Waiting → Token → ℕ → Step
+stepped waiting.Literal t kind = begun_with t kind
+stepped (waiting.Number first) t kind = if kind == terminal.NUMBER then step.Found (record { first = first; minus = true; value = t }) else step.Stop
+stepped (waiting.Text first) t kind = if kind == terminal.STRING then step.Found (record { first = first; minus = false; value = t }) else step.Stop
+stepped waiting.Comma t kind = if kind == terminal.COMMA then step.On waiting.Literal else step.Stop
 
--- what one letter adds to the string in which it stands
-abbrev pub said : Letter → List ℕ
-said l =
-    if l.role == CHARACTER then l.byte ∷ []
-    else if l.role == ESCAPED then unescaped l.byte
-    else if l.role == DOUBLED then l.byte ∷ []
-    else []
+abbrev pub literals_by : Step → (Waiting → List Literal) → List Literal
+literals_by step.Stop behind = []
+literals_by (step.On next) behind = behind next
+literals_by (step.Found literal) behind = literal ∷ behind waiting.Comma
 
-abbrev pub string_of : List Letter → List ℕ
-string_of letters = flat_map said letters
+-- the literals at the front with commas between, up to the first token that goes on no further
+abbrev pub literals_from : List ℕ → Waiting → List Token → List Literal
+literals_from text waiting [] = []
+literals_from text waiting (t ∷ ts) = literals_by (stepped waiting t (terminal_of text t)) (λ next. literals_from text next ts)
 
-abbrev pub signed : Bool → ℕ → ℤ
-signed true n = neg_ℤ (pos n)
-signed false n = pos n
+-- A row's bracket stands at the place. Places have 32 bits, so a longer text has no rows.
+abbrev pub has_bracket : List ℕ → ℕ → Bool
+has_bracket text at = nat_lt (length text) (2 ^ 32) && option_map_or (λ b. b == 40) (slice_get text at) false
 
--- The value of a literal. A number past 64 bits has none, since no column of a plain dump holds it.
-abbrev pub literal_of : List Letter → Option Value
-literal_of letters =
-    if has_role NULL_WORD letters then Some value.Null
-    else if has_role STRING letters then Some (value.Bytes (string_of letters))
-    else if nat_lt (number_of (bytes_with DIGIT letters)) (2 ^ 64)
-    then Some (value.Int (signed (has_role MINUS letters) (number_of (bytes_with DIGIT letters))))
-    else None
+-- the literals of the row whose bracket stands at the place
+abbrev pub literals_at : List ℕ → ℕ → List Literal
+literals_at text at = if has_bracket text at then literals_from text waiting.Literal (lexed (record { text = text; at = at + 1 })).tokens else []
+
+-- a value that the column can have
+abbrev pub if_fits : Column → Option Value → Option Value
+if_fits column o = option_and_then (λ v. if fits v column then Some v else None) o
+
+abbrev pub value_in : List ℕ → Column → Literal → Option Value
+value_in text column literal = if_fits column (literal_of column.kind literal.minus literal.value.kind (bytes_of text literal.value))
+
+-- the values of literals, one for each column
+abbrev pub values_of : List ℕ → List Column → List Literal → Option (List Value)
+values_of text [] [] = Some []
+values_of text [] (l ∷ ls) = None
+values_of text (c ∷ cs) [] = None
+values_of text (c ∷ cs) (l ∷ ls) = option_and_then (λ v. option_map (λ vs. v ∷ vs) (values_of text cs ls)) (value_in text c l)
+
+-- where the first literal begins that has a column, and no value of it
+abbrev pub first_unfit : List ℕ → List Column → List Literal → Option ℕ
+first_unfit text [] ls = None
+first_unfit text (c ∷ cs) [] = None
+first_unfit text (c ∷ cs) (l ∷ ls) = if is_some (value_in text c l) then first_unfit text cs ls else Some l.first.from

@@ -1,20 +1,34 @@
-//! Plain dumps: their grammar, byte by byte, and the schema and rows that a dump says.
+//! Dumps as mysqldump, mydumper and dumpling write them: one CREATE TABLE, and INSERTs of its rows.
 //!
-//! A plain dump is one `CREATE TABLE`, then any number of `INSERT`s of its rows, in at most 65,536 bytes. The grammar
-//! is data, which [`dm_grammar`] reads; it gives each byte a role, and the roles say what the bytes mean.
+//! A dump is read token by token, and no token is kept: its outline is two places and a span, and its rows are the
+//! places of their brackets. A row is read from its bracket again when it is asked for. The grammar is data, which
+//! [`dm_grammar`] reads; `specs/Productions.antt` has it for people to read.
 #![tactic(auto)]
 
-mod columns;
+mod class;
 mod dump;
+mod fault;
+mod gathering;
 mod grammar;
-mod letters;
-mod literals;
-mod read;
-mod roles;
-mod rows;
+mod heads;
+mod inserts;
+mod kinds;
+mod literal;
+mod order;
+mod outline;
+mod reading_rows;
+mod role;
+mod row;
+mod source;
+mod stopping;
+mod terminal;
 #[cfg(test)]
 mod tests;
+mod unit;
 
-pub use dump::Dump;
-pub use letters::Letter;
-pub use read::{MOST_BYTES, read_plain_dump};
+pub use dump::{Dump, read_dump};
+pub use fault::{DumpCause, DumpFault, Fault};
+pub use inserts::{InsertOrder, Inserts};
+pub use order::row_at;
+pub use outline::{Outline, Span, read_outline};
+pub use reading_rows::read_rows;

@@ -1,4 +1,5 @@
 pub mod Classes
+pub mod Names
 pub mod Parsing
 pub mod Pieces
 pub mod Productions

@@ -8,6 +8,7 @@ mod class;
 mod classes;
 mod fault;
 mod kinds;
+pub mod names;
 mod parsing;
 mod piece;
 mod productions;

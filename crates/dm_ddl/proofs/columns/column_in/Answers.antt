@@ -4,7 +4,8 @@ use Rattle.dm_schema.specs.declared.column.DefaultRule.TheVariants as default
 use Rattle.dm_syntax.specs.declared.role.TheConstants as role
 use Rattle.dm_ddl.specs.Types.{kind_in}
 use Rattle.dm_ddl.specs.Columns.{last_default, nullable_in, column_name}
-use Rattle.dm_ddl.proofs.Formed.{with_folded, rule_formed, column_formed}
+use Rattle.dm_syntax.proofs.Folding.{with_folded}
+use Rattle.dm_ddl.proofs.Formed.{rule_formed, column_formed}
 use Rattle.dm_ddl.proofs.columns.column_in.Goals as goal
 
 pub returns-clause-formed : goal.returns-clause-formed
