@@ -1,6 +1,9 @@
-use crate::{Status, fault_line, push_head, push_row};
+use crate::{Status, Which, fault_line, push_head, push_row};
+use dm_dump::DumpCause;
+use dm_join::JoinCause;
 use dm_list::Bytes;
-use dm_schema::{Column, DefaultRule, Kind, Names, UniqueKey};
+use dm_schema::{Column, DefaultRule, Kind, Names, TableName, UniqueKey};
+use dm_task::TaskCause;
 use dm_value::{Name, Value};
 use std::alloc::{AllocError, Global};
 use std::test::Fail;
@@ -87,27 +90,70 @@ fn prints_keys_and_defaults(rt: HostRuntime) -> Result<(), Fail> {
     Ok(())
 }
 
-#[test]
-fn ends_by_a_fault(rt: HostRuntime) -> Result<(), Fail> {
-    let alloc = rt.alloc();
-    let missing = Bytes::new(b"a.sql".to_vec(alloc)?);
-    let later = Bytes::new(b"b.sql".to_vec(alloc)?);
-    let ends = vec![in alloc;
-        (Status::Done, 0, ""),
-        (Status::Usage, 1, "fault Usage\n"),
-        (Status::ReadFault, 4, "fault ReadFault\n"),
-        (Status::WriteFault, 5, ""),
-        (Status::Memory, 7, ""),
-        (
-            Status::Missing { name: missing },
-            11,
-            "fault Missing a.sql\n"
-        ),
-        (Status::Later { name: later }, 14, "fault Later b.sql\n"),
-    ]?;
-    for (status, code, line) in &ends {
-        assert_eq!(rt; status.code(), *code);
-        assert_eq!(rt; fault_line(alloc, status)?.as_slice(), line.as_bytes());
+fn bytes(alloc: Global, text: &[u8]) -> Result<Bytes, AllocError> {
+    Ok(Bytes::new(text.to_vec(alloc)?))
+}
+
+/// A status of each kind that has fields.
+fn faults(alloc: Global) -> Result<Vec<Status>, AllocError> {
+    let task = Status::Task {
+        path: bytes(alloc, b"source[0].name")?,
+        cause: TaskCause::Repeated,
+    };
+    let dump = Status::Dump {
+        file: bytes(alloc, b"b.sql")?,
+        at: 4_294_967_295,
+        cause: DumpCause::SecondCreate,
+    };
+    let first = Status::First {
+        table: TableName {
+            db: name(alloc, b"m")?,
+            table: name(alloc, b"a`b")?,
+        },
+        column: name(alloc, b"v")?,
+        cause: JoinCause::MissingNoFill,
+    };
+    let missing = Status::Missing {
+        name: bytes(alloc, b"a.sql")?,
+    };
+    let limit = Status::Limit {
+        which: Which::Values,
+    };
+    Ok(vec![in alloc; task, limit, missing, dump, first]?)
+}
+
+/// The exit status and the line of each status.
+fn lines(alloc: Global, statuses: &[Status]) -> Result<String, AllocError> {
+    let mut all = String::new(alloc);
+    for status in statuses {
+        let line = fault_line(alloc, status)?;
+        let code = status.code().to_string(alloc)?;
+        all.push_str(code.as_str())?;
+        all.push_str(" ")?;
+        all.push_str(std::str::from_utf8(line.as_slice()).unwrap_or("no text"))?;
     }
+    Ok(all)
+}
+
+#[test]
+fn tells_faults_with_their_fields(rt: HostRuntime) -> Result<(), Fail> {
+    let alloc = rt.alloc();
+    let want = "2 fault Task source[0].name Repeated\n\
+        9 fault Limit Values\n\
+        11 fault Missing a.sql\n\
+        12 fault Dump b.sql 4294967295 SecondCreate\n\
+        13 fault First `m`.`a``b` NoJoin `v` MissingNoFill\n";
+    assert_eq!(rt; lines(alloc, &faults(alloc)?)?.as_str(), want);
+    Ok(())
+}
+
+#[test]
+fn tells_faults_without_fields(rt: HostRuntime) -> Result<(), Fail> {
+    let alloc = rt.alloc();
+    let statuses = [Status::Usage, Status::ReadFault, Status::Unlawful];
+    let want = "1 fault Usage\n4 fault ReadFault\n10 fault Unlawful\n";
+    assert_eq!(rt; lines(alloc, &statuses)?.as_str(), want);
+    let silent = [Status::Done, Status::WriteFault, Status::Memory];
+    assert_eq!(rt; lines(alloc, &silent)?.as_str(), "0 5 7 ");
     Ok(())
 }

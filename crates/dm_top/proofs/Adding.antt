@@ -6,7 +6,7 @@ use Rattle.std.specs.BTreeMap.{BTreeMap, insert_entry, get, values}
 use Rattle.std.specs.FinMap as fin
 use Rattle.std.specs.Map.{lookup}
 use Rattle.std.specs.Option.{option_map}
-use Rattle.std.proofs.lemmas.List.{at_drop_more, map-append, map-map}
+use Rattle.std.proofs.lemmas.List.{at_drop_more, map-append}
 use Rattle.dm_value.specs.Order.{row_cmp}
 use Rattle.dm_schema.specs.declared.column.UniqueKey.{UniqueKey}
 use Rattle.dm_schema.specs.Layout.{Layout}

@@ -2,7 +2,7 @@
 use Rattle.std.proofs.Common.{◌≡◌, true, false, List, [], ◌∷◌, ◌++◌, Result, Ok, Err, MatchBool, refl, sym, ap, subst, append_assoc}
 use Rattle.std.specs.Prelude.{⊤, Bool}
 use Rattle.dm_dump.specs.declared.dump.Dump.{Dump}
-use Rattle.dm_dump.specs.declared.fault.Fault.{Fault}
+use Rattle.dm_dump.specs.declared.fault.DumpFault.{DumpFault}
 use Rattle.dm_dump.specs.Dumps.{IsDump}
 use Rattle.dm_report.specs.declared.status.Status.{Status}
 use Rattle.dm_top.specs.declared.files.NamedFile.{NamedFile}
@@ -27,12 +27,12 @@ one_further front said (Err s) = refl
 
 pub goes_on : (all rest : List Named) (file : Named) (front : List Said) (source : Source) → SoFar all (file ∷ rest) front → source.file.bytes.items ≡ file.1 → IsDump file.1 (Ok source.dump) → SoFar all rest (front ++ said_in source ∷ [])
 goes_on all rest file front source so_far same dump outcome h =
-    let first : ReadsDumps (file ∷ rest) (with_dump (said_in source) outcome) = (Ok source.dump, dump, outcome, h, ap (λ text. with_dump (record { text = text; dump = source.dump }) outcome) same) in
+    let first : ReadsDumps (file ∷ rest) (with_dump (said_in source) outcome) = (Ok source.dump, dump, (outcome, h, ap (λ text. with_dump (record { text = text; dump = source.dump }) outcome) same)) in
     subst (λ (o : Result (List Said) Status). ReadsDumps all o) (one_further front (said_in source) outcome) (so_far _ first)
 
 -- how it ends at a file that is no dump
-pub ends : (all rest : List Named) (file : Named) (front : List Said) (s : Status) → SoFar all (file ∷ rest) front → MatchBool (is_memory s) ⊤ ((f : Fault) × IsDump file.1 (Err f) × (s ≡ bad_dump file.0 f)) → MatchBool (is_memory s) ⊤ (ReadsDumps all (Err s))
+pub ends : (all rest : List Named) (file : Named) (front : List Said) (s : Status) → SoFar all (file ∷ rest) front → MatchBool (is_memory s) ⊤ ((f : DumpFault) × IsDump file.1 (Err f) × (s ≡ bad_dump file.0 f)) → MatchBool (is_memory s) ⊤ (ReadsDumps all (Err s))
 ends all rest file front s so_far h = by (is_memory s) h where
-  by : (b : Bool) → MatchBool b ⊤ ((f : Fault) × IsDump file.1 (Err f) × (s ≡ bad_dump file.0 f)) → MatchBool b ⊤ (ReadsDumps all (Err s))
+  by : (b : Bool) → MatchBool b ⊤ ((f : DumpFault) × IsDump file.1 (Err f) × (s ≡ bad_dump file.0 f)) → MatchBool b ⊤ (ReadsDumps all (Err s))
   by true h = tt
   by false (f, bad, e) = so_far (Err s) (Err f, bad, rw e refl)

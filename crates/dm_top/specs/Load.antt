@@ -18,7 +18,8 @@ use Rattle.dm_join.specs.declared.no_join.NoJoin.{NoJoin}
 use Rattle.dm_join.specs.declared.no_join.NoJoin.TheVariants as no_join
 use Rattle.dm_join.specs.Join.{join}
 use Rattle.dm_dump.specs.declared.dump.Dump.{Dump}
-use Rattle.dm_dump.specs.declared.fault.Fault.{Fault}
+use Rattle.dm_dump.specs.declared.fault.DumpFault.{DumpFault}
+use Rattle.dm_dump.specs.declared.fault.DumpFault.TheVariants as fault
 use Rattle.dm_dump.specs.Dumps.{IsDump}
 use Rattle.dm_report.specs.declared.status.Status.{Status}
 use Rattle.dm_report.specs.declared.status.Status.TheVariants as status
@@ -32,22 +33,23 @@ use Rattle.dm_top.specs.Rows.{Said, Row, Entry, all_entries}
 -- Dumps.
 
 -- how it ends at a dump's first fault
-abbrev pub bad_dump : Text → Fault → Status
-bad_dump name f = status.Dump name f.at f.cause
+abbrev pub bad_dump : Text → DumpFault → Status
+bad_dump name (fault.At at cause) = status.Dump name at cause
+bad_dump name fault.Memory = status.Memory
 
 abbrev pub with_dump : Said → Result (List Said) Status → Result (List Said) Status
 with_dump said (Ok others) = Ok (said ∷ others)
 with_dump said (Err s) = Err s
 
 -- A file that is a dump, behind which others come; or how it ends at its first fault.
-abbrev pub GoesOn : (Result (List Said) Status → Type 0) → Named → Result Dump Fault → Result (List Said) Status → Type 0
+abbrev pub GoesOn : (Result (List Said) Status → Type 0) → Named → Result Dump DumpFault → Result (List Said) Status → Type 0
 GoesOn Others file (Err f) outcome = outcome ≡ Err (bad_dump file.0 f)
 GoesOn Others file (Ok dump) outcome = (others : Result (List Said) Status) × Others others × (outcome ≡ with_dump (record { text = file.1; dump = dump }) others)
 
 -- What these files say, each of which is a dump; or how it ends at the first that is none.
 abbrev pub ReadsDumps : List Named → Result (List Said) Status → Type 0
 ReadsDumps [] outcome = outcome ≡ Ok []
-ReadsDumps (file ∷ files) outcome = (read : Result Dump Fault) × IsDump file.1 read × GoesOn (ReadsDumps files) file read outcome
+ReadsDumps (file ∷ files) outcome = (read : Result Dump DumpFault) × IsDump file.1 read × GoesOn (ReadsDumps files) file read outcome
 
 -- Limits.
 

@@ -10,7 +10,7 @@ use Rattle.dm_schema.specs.Names.{Text}
 use Rattle.dm_schema.specs.Fill.{fill}
 use Rattle.dm_schema.specs.Rows.{cell, key_of}
 use Rattle.dm_dump.specs.declared.inserts.InsertOrder.{InsertOrder}
-use Rattle.dm_dump.specs.Rows.{row_of}
+use Rattle.dm_dump.specs.Orders.{row_of}
 use Rattle.dm_dump.specs.declared.dump.Dump.{Dump}
 
 -- a text and the dump that it says

@@ -3,7 +3,7 @@ use Rattle.std.specs.Prelude.{◌≡◌, ⊤, List, map, Result, Ok, Err, MatchB
 use Rattle.std.specs.Global.{Vec}
 use Rattle.dm_schema.specs.Layout.{Layout}
 use Rattle.dm_dump.specs.declared.dump.Dump.{Dump}
-use Rattle.dm_dump.specs.declared.fault.Fault.{Fault}
+use Rattle.dm_dump.specs.declared.fault.DumpFault.{DumpFault}
 use Rattle.dm_dump.specs.Dumps.{IsDump}
 use Rattle.dm_report.specs.declared.status.Status.{Status}
 use Rattle.dm_top.specs.declared.sources.Source.{Source}
@@ -25,7 +25,7 @@ schemas_of said = map (λ s. s.dump.schema) said
 -- What a file says was read, or its first fault; memory may run out.
 abbrev pub ReadsSource : Named → Result Source Status → Type 0
 ReadsSource file (Ok source) = (source.file.bytes.items ≡ file.1) × IsDump file.1 (Ok source.dump)
-ReadsSource file (Err s) = MatchBool (is_memory s) ⊤ ((f : Fault) × IsDump file.1 (Err f) × (s ≡ bad_dump file.0 f))
+ReadsSource file (Err s) = MatchBool (is_memory s) ⊤ ((f : DumpFault) × IsDump file.1 (Err f) × (s ≡ bad_dump file.0 f))
 
 -- What files say was read, or how it ends at the first that is no dump.
 abbrev pub ReadsSources : List Named → Result (Vec Source) Status → Type 0

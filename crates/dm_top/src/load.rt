@@ -1,6 +1,5 @@
-ghost use Rattle.std.specs.Prelude.{◌≡◌, ◌≢◌, ◌<◌, ⊤, Err, length, All, IfSome, IfErr, IsErrAnd, MatchBool, IsTrue};
+ghost use Rattle.std.specs.Prelude.{◌≡◌, ◌≢◌, ◌<◌, ◌≤◌, ⊤, Err, length, All, IfSome, IfOk, IfErr, IsErrAnd, MatchBool, IsTrue};
 ghost use Rattle.std.specs.Str.{IsUtf8};
-ghost use Rattle.std.specs.Result.{ForErr};
 ghost use Rattle.dm_base.specs.Outside.{Rose};
 ghost use Rattle.dm_top.specs.Reading.{named_of};
 ghost use Rattle.dm_top.specs.Top.{is_free, is_missing, is_refusal, is_own, FilesOrEnd, Merges, Loads};

@@ -1,7 +1,7 @@
-ghost use Rattle.std.specs.Prelude.{◌≡◌, ◌<◌, map, length, Some, None, IfOk, if◌then◌else◌};
+ghost use Rattle.std.specs.Prelude.{◌≡◌, ◌<◌, [], Ok, length, option_map, IfOk};
 ghost use Rattle.dm_list.specs.Answer.{Answers};
 ghost use Rattle.dm_top.specs.Rows.{all_entries};
-ghost use Rattle.dm_top.specs.Load.{load_table, merged_over, merged_of, clash};
+ghost use Rattle.dm_top.specs.Load.{load_table, merged_over, merged_of};
 ghost use Rattle.dm_top.specs.Merge.{added};
 ghost use Rattle.dm_top.specs.Sources.{said_of};
 ghost use Rattle.dm_top.specs.Top.{is_memory};

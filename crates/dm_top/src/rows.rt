@@ -1,6 +1,7 @@
 ghost use Rattle.std.specs.Prelude.{◌≡◌, [], ◌∷◌, map, unwrap_or, Some, None, IfOk, if◌then◌else◌};
 ghost use Rattle.std.specs.Option.{option_copied};
 ghost use Rattle.dm_value.specs.declared.value.Value.TheVariants as value;
+ghost use Rattle.dm_schema.specs.Fill.{fill};
 ghost use Rattle.dm_schema.specs.Rows.{cell};
 ghost use Rattle.dm_top.specs.Rows.{Orders, orders_at, row_under, widened_cell, widened, entry_of, entries_of};
 ghost use Rattle.dm_top.specs.Sources.{said_in};
@@ -124,7 +125,7 @@ fn add_row_at(
     orders: Orders,
     at: u32,
 ) -> Result<bool, AllocError>
-    ensures { IfOk result (λ new. added rows.old.entries (map (entry_of joined.now source.now.dump.schema.columns) (row_under source.now.file.bytes.items source.now.dump.schema (orders_seen orders) at))
+    ensures { IfOk result (λ new. added rows.old.entries (map (entry_of joined.now source.now.dump.schema.columns) (row_under source.now.file.bytes.items source.now.dump.schema (orders_seen orders.entry) at))
         ≡ (if new then Some rows.new.entries else None)) }
 {
     let Some(order) = orders.now else {

@@ -49,163 +49,201 @@ fn run(alloc: Global, words: &[&str], outside: Outside<'_>) -> Result<Ended, All
     })
 }
 
-const CREATE: &[u8] =
-    b"CREATE TABLE `t` (`id` INT NOT NULL, `v` VARCHAR(20), PRIMARY KEY (`id`)); ";
-
-const CREATE_REVERSED: &[u8] =
-    b"CREATE TABLE `t` (`v` VARCHAR(20), `id` INT NOT NULL, PRIMARY KEY (`id`)); ";
-
-const CREATE_BIGINT: &[u8] =
-    b"CREATE TABLE `t` (`id` BIGINT NOT NULL, `v` VARCHAR(20), PRIMARY KEY (`id`));";
-
-/// A dump that begins so, with these rows.
-fn dump(alloc: Global, create: &[u8], rows: &[u8]) -> Result<Vec<u8>, AllocError> {
-    let mut text = create.to_vec(alloc)?;
-    text.extend_from_slice(b"INSERT INTO `t` VALUES ")?;
-    text.extend_from_slice(rows)?;
-    text.extend_from_slice(b";\n")?;
-    Ok(text)
+/// Whether a run of these words ends with this status and puts these bytes.
+fn ends_with(
+    alloc: Global,
+    words: &[&str],
+    outside: Outside<'_>,
+    code: u8,
+    output: &[u8],
+) -> Result<bool, AllocError> {
+    let ended = run(alloc, words, outside)?;
+    Ok(ended.status.code() == code && ended.output.as_slice() == output)
 }
+
+const FIRST: &[u8] = b"CREATE TABLE `t0` (`id` INT NOT NULL, `v` VARCHAR(20), PRIMARY KEY (`id`)); \
+    INSERT INTO `t0` VALUES (1,'x'),(2,NULL);";
+
+const SECOND: &[u8] = b"CREATE TABLE `t1` (`id` INT NOT NULL, `v` VARCHAR(20), PRIMARY KEY (`id`)); \
+    INSERT INTO `t1` VALUES (11,'it\\'s');";
+
+const FURTHER_COLUMN: &[u8] = b"CREATE TABLE t1 (id INT PRIMARY KEY, d INT DEFAULT 5, v VARCHAR(20));\n\
+    INSERT INTO t1 (v, d, id) VALUES ('y', 6, 12);";
+
+const OTHER_FAMILY: &[u8] = b"CREATE TABLE t1 (id INT PRIMARY KEY, v INT)";
+
+const UNIQUE: &[u8] = b"CREATE TABLE t0 (id INT PRIMARY KEY, u INT, UNIQUE KEY k (u)); \
+    INSERT INTO t0 VALUES (1, NULL), (2, NULL), (3, 7);";
+
+const UNIQUE_AGAIN: &[u8] = b"CREATE TABLE t1 (id INT PRIMARY KEY, u INT, UNIQUE KEY k (u)); \
+    INSERT INTO t1 VALUES (4, 8), (5, 7);";
+
+const TASK: &[u8] = b"name = \"m\"\n\
+    [[source]]\nname = \"a\"\nbinlogs = [\"a.bin\"]\n\
+    [[source.table]]\ndb = \"s\"\ntable = \"t0\"\ncreate = \"a.sql\"\n\
+    [[source]]\nname = \"b\"\nbinlogs = [\"b.bin\"]\n\
+    [[source.table]]\ndb = \"s\"\ntable = \"t1\"\ncreate = \"b.sql\"\n\
+    [[route]]\ndb = \"s\"\ntable = \"t*\"\nto_db = \"m\"\nto_table = \"t\"\n";
+
+const LOAD_BOTH: [&str; 3] = ["load", "a.sql", "b.sql"];
 
 #[test]
 fn merges_rows_by_key(rt: HostRuntime) -> Result<(), Fail> {
-    let alloc = rt.alloc();
-    let first = dump(alloc, CREATE, b"(1,'x'),(2,NULL),(11,'it\\'s')")?;
-    let second = dump(alloc, CREATE_REVERSED, b"('y',-7),(NULL,3)")?;
-    let ended = run(
-        alloc,
-        &["load", "a.sql", "b.sql"],
-        files(&[&first, &second]),
-    )?;
     let want = b"column `id` INT NOT NULL\n\
         column `v` VARCHAR(20) NULL\n\
         primary (`id`)\n\
-        rows 5\n\
-        row (-7,'y')\n\
+        rows 3\n\
         row (1,'x')\n\
         row (2,NULL)\n\
-        row (3,NULL)\n\
         row (11,'it\\'s')\n";
-    assert_eq!(rt; ended.output.as_slice(), want.as_slice());
-    assert_eq!(rt; ended.status.code(), 0);
+    assert!(rt; ends_with(rt.alloc(), &LOAD_BOTH, files(&[FIRST, SECOND]), 0, want)?);
     Ok(())
 }
 
 #[test]
-fn names_the_first_file_that_does_not_go_with_those_before(rt: HostRuntime) -> Result<(), Fail> {
-    let alloc = rt.alloc();
-    let good = dump(alloc, CREATE, b"(1,'x')")?;
-    let same_key = dump(alloc, CREATE, b"(2,NULL),(1,NULL)")?;
-    let broken = b"no dump".to_vec(alloc)?;
-    let ended = run(
-        alloc,
-        &["load", "a.sql", "b.sql", "c.sql"],
-        files(&[&good, &same_key, &broken]),
-    )?;
-    assert_eq!(rt; ended.output.as_slice(), b"fault Later b.sql\n".as_slice());
-    assert_eq!(rt; ended.status.code(), 14);
+fn fills_a_column_that_a_dump_lacks(rt: HostRuntime) -> Result<(), Fail> {
+    let want = b"column `d` INT NULL DEFAULT 5\n\
+        column `id` INT NOT NULL\n\
+        column `v` VARCHAR(20) NULL\n\
+        primary (`id`)\n\
+        rows 3\n\
+        row (5,1,'x')\n\
+        row (5,2,NULL)\n\
+        row (6,12,'y')\n";
+    assert!(rt; ends_with(rt.alloc(), &LOAD_BOTH, files(&[FIRST, FURTHER_COLUMN]), 0, want)?);
     Ok(())
 }
 
 #[test]
-fn refuses_another_schema_and_a_file_twice(rt: HostRuntime) -> Result<(), Fail> {
+fn refuses_schemas_without_a_join(rt: HostRuntime) -> Result<(), Fail> {
+    let want = b"fault First `load`.`load` NoJoin `v` Family\n";
+    assert!(rt; ends_with(rt.alloc(), &LOAD_BOTH, files(&[FIRST, OTHER_FAMILY]), 13, want)?);
+    Ok(())
+}
+
+#[test]
+fn refuses_rows_with_one_key(rt: HostRuntime) -> Result<(), Fail> {
     let alloc = rt.alloc();
-    let good = dump(alloc, CREATE, b"(1,'x')")?;
-    let broken = b"no dump".to_vec(alloc)?;
-    let other = CREATE_BIGINT.to_vec(alloc)?;
-    let ended = run(
-        alloc,
-        &["load", "a.sql", "b.sql", "c.sql"],
-        files(&[&good, &broken, &other]),
-    )?;
-    assert_eq!(rt; ended.output.as_slice(), b"fault Later b.sql\n".as_slice());
-    let ended = run(
-        alloc,
-        &["load", "a.sql", "c.sql"],
-        files(&[&good, &broken, &other]),
-    )?;
-    assert_eq!(rt; ended.output.as_slice(), b"fault Later c.sql\n".as_slice());
-    let ended = run(alloc, &["load", "a.sql", "a.sql"], files(&[&good]))?;
-    assert_eq!(rt; ended.output.as_slice(), b"fault Later a.sql\n".as_slice());
+    let want = b"fault Unlawful\n";
+    assert!(rt; ends_with(alloc, &["load", "a.sql", "a.sql"], files(&[FIRST]), 10, want)?);
+    assert!(rt; ends_with(alloc, &LOAD_BOTH, files(&[UNIQUE, UNIQUE_AGAIN]), 10, want)?);
+    Ok(())
+}
+
+#[test]
+fn takes_any_number_of_nulls_under_a_unique_key(rt: HostRuntime) -> Result<(), Fail> {
+    let want = b"column `id` INT NOT NULL\n\
+        column `u` INT NULL\n\
+        primary (`id`)\n\
+        unique `k` (`u`)\n\
+        rows 3\n\
+        row (1,NULL)\n\
+        row (2,NULL)\n\
+        row (3,7)\n";
+    assert!(rt; ends_with(rt.alloc(), &["load", "a.sql"], files(&[UNIQUE]), 0, want)?);
     Ok(())
 }
 
 #[test]
 fn finds_a_missing_file_before_it_looks_into_any(rt: HostRuntime) -> Result<(), Fail> {
+    let alloc = rt.alloc();
     let words = ["load", "a.sql", "b.sql", "c.sql"];
-    let ended = run(rt.alloc(), &words, files(&[b"no dump"]))?;
-    assert_eq!(rt;
-        ended.output.as_slice(),
-        b"fault Missing b.sql\n".as_slice()
-    );
-    assert_eq!(rt; ended.status.code(), 11);
+    let want = b"fault Missing b.sql\n";
+    assert!(rt; ends_with(alloc, &words, files(&[b"no dump"]), 11, want)?);
+    let want = b"fault Missing -x.sql\n";
+    assert!(rt; ends_with(alloc, &["load", "--", "-x.sql"], files(&[]), 11, want)?);
+    Ok(())
+}
+
+#[test]
+fn names_the_byte_at_which_a_file_is_no_dump(rt: HostRuntime) -> Result<(), Fail> {
+    let alloc = rt.alloc();
+    let want = b"fault Dump a.sql 0 NoCreate\n";
+    assert!(rt; ends_with(alloc, &["load", "a.sql"], files(&[b""]), 12, want)?);
+    let want = b"fault Dump b.sql 3 Statement\n";
+    assert!(rt; ends_with(alloc, &LOAD_BOTH, files(&[FIRST, b"-- \nno dump"]), 12, want)?);
+    Ok(())
+}
+
+/// All files together have 134,217,728 bytes at most.
+#[test]
+fn refuses_a_byte_too_much(rt: HostRuntime) -> Result<(), Fail> {
+    let alloc = rt.alloc();
+    let mut blanks = Vec::new(alloc);
+    blanks.resize(134_217_729, b' ')?;
+    let want = b"fault Limit Files\n";
+    assert!(rt; ends_with(alloc, &["load", "a.sql"], files(&[&blanks]), 9, want)?);
+    Ok(())
+}
+
+/// All dumps together have 4,000,000 rows at most.
+#[test]
+fn refuses_a_row_too_much(rt: HostRuntime) -> Result<(), Fail> {
+    let alloc = rt.alloc();
+    let mut text = b"CREATE TABLE t (id INT PRIMARY KEY); INSERT INTO t VALUES (1)".to_vec(alloc)?;
+    for _ in 0..4_000_000 {
+        text.extend_from_slice(b",(1)")?;
+    }
+    let want = b"fault Limit Items\n";
+    assert!(rt; ends_with(alloc, &["load", "a.sql"], files(&[&text]), 9, want)?);
+    Ok(())
+}
+
+#[test]
+fn says_where_the_shards_of_a_task_go(rt: HostRuntime) -> Result<(), Fail> {
+    let want = b"task m sources 2 shards 2 tables 1\n\
+        shard a `s`.`t0` to `m`.`t`\n\
+        shard b `s`.`t1` to `m`.`t`\n";
+    assert!(rt; ends_with(rt.alloc(), &["check-task", "a.sql"], files(&[TASK]), 0, want)?);
+    Ok(())
+}
+
+#[test]
+fn names_what_is_wrong_in_a_task(rt: HostRuntime) -> Result<(), Fail> {
+    let alloc = rt.alloc();
+    let mut text = b"window = 0\n".to_vec(alloc)?;
+    text.extend_from_slice(TASK)?;
+    let want = b"fault Task window Range\n";
+    assert!(rt; ends_with(alloc, &["check-task", "a.sql"], files(&[&text]), 2, want)?);
     Ok(())
 }
 
 #[test]
 fn refuses_words_that_are_no_command(rt: HostRuntime) -> Result<(), Fail> {
     let alloc = rt.alloc();
-    let many = ["load"; 66];
     let wrong: [&[&str]; 5] = [
         &[],
         &["load"],
         &["merge", "a.sql"],
-        &["load", "--all"],
-        &many,
+        &["show"],
+        &["check-task", "a.sql", "--limit", "3"],
     ];
     for words in wrong {
-        let ended = run(alloc, words, files(&[]))?;
-        assert_eq!(rt; ended.output.as_slice(), b"fault Usage\n".as_slice());
-        assert_eq!(rt; ended.status.code(), 1);
+        assert!(rt; ends_with(alloc, words, files(&[TASK]), 1, b"fault Usage\n")?);
     }
-    let ended = run(alloc, &many[..65], files(&[]))?;
-    assert_eq!(rt; ended.status.code(), 11);
     Ok(())
 }
 
 #[test]
 fn says_that_a_read_failed(rt: HostRuntime) -> Result<(), Fail> {
-    let alloc = rt.alloc();
-    let good = dump(alloc, CREATE, b"(1,'x')")?;
     let outside = Outside {
-        texts: &[&good, &good],
+        texts: &[FIRST, SECOND],
         failing_reads: &[2],
         failing_puts: &[],
     };
-    let ended = run(alloc, &["load", "a.sql", "b.sql"], outside)?;
-    assert_eq!(rt; ended.output.as_slice(), b"fault ReadFault\n".as_slice());
-    assert_eq!(rt; ended.status.code(), 4);
+    assert!(rt; ends_with(rt.alloc(), &LOAD_BOTH, outside, 4, b"fault ReadFault\n")?);
     Ok(())
 }
 
 #[test]
 fn says_that_a_put_failed(rt: HostRuntime) -> Result<(), Fail> {
     let alloc = rt.alloc();
-    let good = dump(alloc, CREATE, b"(1,'x')")?;
     let outside = Outside {
-        texts: &[&good],
+        texts: &[FIRST],
         failing_reads: &[],
         failing_puts: &[1],
     };
-    let ended = run(alloc, &["load", "a.sql"], outside)?;
-    assert_eq!(rt; ended.output.as_slice(), b"".as_slice());
-    assert_eq!(rt; ended.status.code(), 5);
-    let ended = run(alloc, &[], outside)?;
-    assert_eq!(rt; ended.output.as_slice(), b"".as_slice());
-    assert_eq!(rt; ended.status.code(), 5);
-    Ok(())
-}
-
-/// A plain dump has 65,536 bytes at most.
-#[test]
-fn takes_a_dump_of_the_most_bytes_and_no_more(rt: HostRuntime) -> Result<(), Fail> {
-    let alloc = rt.alloc();
-    let mut text = dump(alloc, CREATE, b"(1,'x')")?;
-    text.resize(65536, b'\n')?;
-    let ended = run(alloc, &["load", "a.sql"], files(&[&text]))?;
-    assert_eq!(rt; ended.status.code(), 0);
-    text.push(b'\n')?;
-    let ended = run(alloc, &["load", "a.sql"], files(&[&text]))?;
-    assert_eq!(rt; ended.output.as_slice(), b"fault Later a.sql\n".as_slice());
+    assert!(rt; ends_with(alloc, &["load", "a.sql"], outside, 5, b"")?);
+    assert!(rt; ends_with(alloc, &[], outside, 5, b"")?);
     Ok(())
 }

@@ -4,4 +4,4 @@ use Rattle.dm_top.proofs.Gathering.{SoFar}
 use Rattle.dm_top.proofs.sources.read_sources.Given as goal
 
 abbrev pub invariant-loop-file : goal.invariant-loop-file
-invariant-loop-file l = SoFar (named_of l.files.items) (named_of l.file-iterator) (said_of l.sources.items)
+invariant-loop-file l = SoFar (named_of l.fn.files.items) (named_of l.file-iterator) (said_of l.sources.items)
