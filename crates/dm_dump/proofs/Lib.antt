@@ -5,3 +5,4 @@ pub mod Stream
 pub mod UnitLemmas
 pub mod OutlineLemmas
 pub mod DumpLemmas
+pub mod Laws

@@ -54,9 +54,9 @@ head_fault text table columns unit =
     else if lacks_column text columns unit then Some (record { at = place_of_piece (first_with role.NAMES_OPEN unit); cause = cause.Columns })
     else None
 
--- the names of the list, or of the schema's columns
+-- the names of a whole list, or of the schema's columns
 abbrev pub order_in : List ℕ → List Column → List Piece → List Text
-order_in text columns unit = if has_role role.NAMES_OPEN unit then all_folded_with text role.COLUMN unit else column_names columns
+order_in text columns unit = if has_role role.NAMES_CLOSE unit then all_folded_with text role.COLUMN unit else column_names columns
 
 -- Rows.
 

@@ -105,7 +105,7 @@ pub fn head_fault(
     Ok(None)
 }
 
-/// The order of an INSERT's literals: the names of its list, or of the schema's columns.
+/// The order of an INSERT's literals: the names of its whole list, or of the schema's columns.
 pub fn order_in(
     alloc: Global,
     text: &[u8],
@@ -114,7 +114,7 @@ pub fn order_in(
 ) -> Result<Vec<Name>, AllocError>
     ensures { IfOk result (λ order. order.items ≡ order_in text.now columns.now unit.now) }
 {
-    if has_role(unit, role::NAMES_OPEN) {
+    if has_role(unit, role::NAMES_CLOSE) {
         all_folded_with(alloc, text, unit, role::COLUMN)
     } else {
         column_names(alloc, columns)

@@ -8,6 +8,9 @@ use dm_value::{Names, Row, Value};
 use std::alloc::{AllocError, Global};
 use tables::{DUMPLING, DUMPS, MYSQLDUMP, OUTLINES, WHOLE};
 
+/// Places in a dump have 32 bits.
+const MOST_BYTES: usize = 0x1_0000_0000;
+
 fn push_text(out: &mut Vec<u8>, text: &[u8]) -> Result<(), AllocError> {
     out.push(b'<')?;
     out.extend_from_slice(text)?;
@@ -83,6 +86,9 @@ fn push_fault(
 
 /// A dump's table and rows, or its fault.
 fn push_dump(alloc: Global, out: &mut Vec<u8>, text: &[u8]) -> Result<(), AllocError> {
+    if text.len() >= MOST_BYTES {
+        return out.extend_from_slice(b"too long");
+    }
     match read_dump(alloc, text) {
         Ok(dump) => {
             out.extend_from_slice(dump.table.as_slice())?;
@@ -114,6 +120,9 @@ fn push_end(alloc: Global, out: &mut Vec<u8>, fault: Option<Fault>) -> Result<()
 }
 
 fn push_outline(alloc: Global, out: &mut Vec<u8>, text: &[u8]) -> Result<(), AllocError> {
+    if text.len() >= MOST_BYTES {
+        return out.extend_from_slice(b"too long");
+    }
     let Outline {
         create,
         first_insert,
@@ -205,6 +214,9 @@ fn reads_what_mysqldump_writes(rt: HostRuntime) -> Result<(), AllocError> {
 
 /// A letter for each answer: `o` for a dump, the cause's first letter for a fault.
 fn letter_of(alloc: Global, text: &[u8]) -> u8 {
+    if text.len() >= MOST_BYTES {
+        return b'?';
+    }
     match read_dump(alloc, text) {
         Ok(_) => b'o',
         Err(DumpFault::At { cause, .. }) => match cause {
