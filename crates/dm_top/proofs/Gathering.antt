@@ -1,5 +1,5 @@
 -- Reading dumps in turn: those so far, and those to come.
-use Rattle.std.proofs.Common.{◌≡◌, true, false, List, [], ◌∷◌, ◌++◌, Result, Ok, Err, MatchBool, refl, sym, ap, subst, append_assoc}
+use Rattle.std.proofs.Common.{◌≡◌, true, false, List, [], ◌∷◌, ◌++◌, Result, Ok, Err, MatchBool, refl, sym, ap, subst, append_assoc, append-nil}
 use Rattle.std.specs.Prelude.{⊤, Bool}
 use Rattle.dm_dump.specs.declared.dump.Dump.{Dump}
 use Rattle.dm_dump.specs.declared.fault.DumpFault.{DumpFault}
@@ -36,3 +36,9 @@ ends all rest file front s so_far h = by (is_memory s) h where
   by : (b : Bool) → MatchBool b ⊤ ((f : DumpFault) × IsDump file.1 (Err f) × (s ≡ bad_dump file.0 f)) → MatchBool b ⊤ (ReadsDumps all (Err s))
   by true h = tt
   by false (f, bad, e) = so_far (Err s) (Err f, bad, rw e refl)
+
+-- all files were read
+pub finished : (all : List Named) (rest : List NamedFile) (front : List Said) → rest ≡ [] → SoFar all (named_of rest) front → ReadsDumps all (Ok front)
+finished all rest front none so_far =
+    let last : SoFar all [] front = subst (λ (fs : List NamedFile). SoFar all (named_of fs) front) none so_far in
+    subst (λ (z : List Said). ReadsDumps all (Ok z)) (append-nil front) (last (Ok []) refl)

@@ -1,7 +1,7 @@
 -- What `load` prints of dumps: the join of their schemas, and the rows of all of them by primary key, a column that a
 -- dump lacks filled.
 use Rattle.std.specs.Prelude.{◌≡◌, ℕ, ◌+◌, ◌*◌, nat_lt, Bool, true, false, not, ◌||◌, List, [], ◌∷◌, ◌++◌, length, map, fold, codes, Option, Some, None, Result, Ok, Err, if◌then◌else◌}
-use Rattle.std.specs.List.{list_any, filter, flat_map}
+use Rattle.std.specs.List.{list_any, filter_map}
 use Rattle.std.specs.Ordering.{eq_by_cmp}
 use Rattle.std.specs.FinMap as fin
 use Rattle.std.specs.FinMap.{FinMap}
@@ -75,14 +75,12 @@ abbrev pub is_null : Value → Bool
 is_null value.Null = true
 is_null v = false
 
--- the values of rows under a unique key, without those that have a NULL: they are equal to none
-abbrev pub values_under : Layout → List Row → UniqueKey → List Row
-values_under joined rows key = filter (λ values. not (list_any is_null values)) (map (λ row. values_at joined.columns row key.columns) rows)
+-- a row's values under a unique key; none where a NULL is among them, since such values are equal to none
+abbrev pub unique_values : Layout → UniqueKey → Row → Option Row
+unique_values joined key row = if list_any is_null (values_at joined.columns row key.columns) then None else Some (values_at joined.columns row key.columns)
 
--- two rows have the same values under the primary key, or under a unique key
-abbrev pub clash : Layout → List Entry → Bool
-clash joined entries =
-    repeats same_row (keys_of entries) || list_any (λ key. repeats same_row (values_under joined (map (λ e. e.1) entries) key)) joined.uniques
+abbrev pub values_under : Layout → List Row → UniqueKey → List Row
+values_under joined rows key = filter_map (unique_values joined key) rows
 
 -- The table.
 
@@ -93,6 +91,11 @@ map_of entries = fold (λ m e. fin.insert m e.0 e.1) fin.empty entries
 -- the rows by primary key
 abbrev pub rows_by_key : List Entry → List Row
 rows_by_key entries = fin.values (map_of entries)
+
+-- two rows have the same values under the primary key, or under a unique key
+abbrev pub clash : Layout → List Entry → Bool
+clash joined entries =
+    repeats same_row (keys_of entries) || list_any (λ key. repeats same_row (values_under joined (rows_by_key entries) key)) joined.uniques
 
 -- the text of the table with these entries
 abbrev pub merged_text : Layout → List Entry → Text
@@ -108,9 +111,14 @@ merged_over (Err (no_join.At column cause)) said = Err (status.First load_table 
 merged_over (Err no_join.Memory) said = Err status.Memory
 merged_over (Ok joined) said = if clash joined (all_entries joined said) then Err status.Unlawful else Ok (merged_text joined (all_entries joined said))
 
+-- no dump has no table
+abbrev pub merged_from : List Said → Result Text Status
+merged_from [] = Ok []
+merged_from (first ∷ rest) = merged_over (join (map (λ s. s.dump.schema) (first ∷ rest))) (first ∷ rest)
+
 -- The text of dumps, or how it ends: too many rows, too many values, schemas without a join, rows that clash.
 abbrev pub merged_of : List Said → Result Text Status
 merged_of said = by (first_refusal ((nat_lt MOST_ITEMS (items_of said), which.Items) ∷ (nat_lt MOST_VALUES (values_of said), which.Values) ∷ [])) where
   by : Option Which → Result Text Status
   by (Some limit) = Err (status.Limit limit)
-  by None = merged_over (join (map (λ s. s.dump.schema) said)) said
+  by None = merged_from said

@@ -1,5 +1,5 @@
 -- How entries are put into a map, one after another. `Load` says what comes of it.
-use Rattle.std.specs.Prelude.{List, [], ◌∷◌, Option, Some, None, if◌then◌else◌}
+use Rattle.std.specs.Prelude.{List, [], ◌∷◌, map, Option, Some, None, if◌then◌else◌}
 use Rattle.std.specs.List.{list_any}
 use Rattle.std.specs.Option.{option_map}
 use Rattle.std.specs.BTreeMap.{insert_entry}
@@ -17,3 +17,7 @@ added entries (e ∷ more) = if list_any (λ k. same_row e.0 k) (keys_of entries
 -- orders of columns that are lent
 abbrev pub orders_seen : Orders → rows.Orders
 orders_seen o = record { now = option_map (λ names. names.now) o.now; coming = o.coming.now }
+
+-- values that are noted: there is nothing under them
+abbrev pub noted : List Row → List (Row × Unit {0})
+noted rows = map (λ v. (v, tt)) rows

@@ -1,5 +1,5 @@
 -- Reading files by name, in turn, as far as there is room.
-use Rattle.std.specs.Prelude.{◌≡◌, ⊤, ℕ, ◌-◌, nat_lt, true, List, [], ◌∷◌, length, map, Option, Some, None, Result, Ok, Err, if◌then◌else◌}
+use Rattle.std.specs.Prelude.{◌≡◌, ⊤, ℕ, ◌-◌, nat_lt, true, List, [], ◌∷◌, ◌++◌, length, map, Option, Some, None, Result, Ok, Err, if◌then◌else◌}
 use Rattle.std.specs.Global.{Vec}
 use Rattle.dm_base.specs.Outside.{Files}
 use Rattle.dm_schema.specs.Names.{Text}
@@ -56,6 +56,18 @@ ReadsFile files room name (Err (fault.Missing missing)) = (missing ≡ name) × 
 ReadsFile files room name (Err fault.TooLong) = (text : Text) × (files name ≡ Some text) × (nat_lt room (length text) ≡ true)
 ReadsFile files room name (Err fault.Failed) = ⊤
 ReadsFile files room name (Err fault.Memory) = ⊤
+
+abbrev pub with_front : List Named → Result (List Named) Status → Result (List Named) Status
+with_front front (Ok others) = Ok (front ++ others)
+with_front front (Err s) = Err s
+
+-- A further file was read: behind those before it come it and the others; or how it ends.
+abbrev pub ReadsNext : Files → ℕ → Text → List NamedFile → List NamedFile → Result ℕ ReadFault → Type 0
+ReadsNext files room name before now (Ok left) = (names : List Text) → with_front (named_of now) (files_of files left names) ≡ with_front (named_of before) (files_of files room (name ∷ names))
+ReadsNext files room name before now (Err (fault.Missing missing)) = (names : List Text) → files_of files room (name ∷ names) ≡ Err (status.Missing missing)
+ReadsNext files room name before now (Err fault.TooLong) = (names : List Text) → files_of files room (name ∷ names) ≡ Err (status.Limit which.Files)
+ReadsNext files room name before now (Err fault.Failed) = ⊤
+ReadsNext files room name before now (Err fault.Memory) = ⊤
 
 -- There is no file of some name.
 abbrev pub IsMissing : {A : Type 0} → Result A ReadFault → Type 0

@@ -1,7 +1,7 @@
-ghost use Rattle.std.specs.Prelude.{◌≡◌, ◌≤◌, length, All, IfSome, IfOk, IsErrOf};
+ghost use Rattle.std.specs.Prelude.{◌≡◌, ◌≤◌, ◌+◌, ℕ, length, All, IfSome, IfOk, OnOk, IsErrOf};
 ghost use Rattle.std.specs.Str.{IsUtf8};
 ghost use Rattle.dm_base.specs.Outside.{Rose};
-ghost use Rattle.dm_top.specs.Reading.{ReadsFile, ReadsFiles, IsMissing};
+ghost use Rattle.dm_top.specs.Reading.{ReadsFile, ReadsNext, ReadsFiles, IsMissing};
 
 use dm_base::{Shelf, ShelfError};
 use dm_list::Bytes;
@@ -78,6 +78,31 @@ pub fn read_file<F: Shelf>(
     }
 }
 
+/// Reads a further file, where it is no longer than the room; answers the room that is left behind it.
+fn read_next<F: Shelf>(
+    alloc: Global,
+    shelf: &mut F,
+    read: &mut Vec<NamedFile>,
+    name: &Bytes,
+    room: u32,
+) -> Result<u32, ReadFault>
+    requires { IsUtf8 name.now }
+    ensures told { IfSome (F.files shelf.old) (λ files. ReadsNext files room name.now read.old.items read.new.items result) }
+    ensures left { IfOk result (λ left. left ≤ room) }
+    ensures sizes { OnOk result ((most : ℕ) → room ≤ most → All (λ f. length f.bytes.items ≤ most) read.old.items → All (λ f. length f.bytes.items ≤ most) read.new.items) }
+    ensures count { OnOk result (length read.new.items ≡ length read.old.items + 1) }
+    ensures files { F.files shelf.new ≡ F.files shelf.old }
+    ensures faults { F.faults shelf.old ≤ F.faults shelf.new }
+    ensures misses { F.misses shelf.old ≤ F.misses shelf.new }
+    ensures failed { IsErrOf result ReadFault.Failed → Rose (F.faults shelf.old) (F.faults shelf.new) }
+    ensures missing { IsMissing result → Rose (F.misses shelf.old) (F.misses shelf.new) }
+{
+    let file = read_file(alloc, shelf, text_of(name), room)?;
+    let left = room - file.bytes.len() as u32;
+    read.push(file)?;
+    Ok(left)
+}
+
 /// The files of these names, in turn, as long as all of them together are no longer than the room.
 pub fn read_files<F: Shelf>(
     alloc: Global,
@@ -95,14 +120,12 @@ pub fn read_files<F: Shelf>(
     ensures failed { IsErrOf result ReadFault.Failed → Rose (F.faults shelf.old) (F.faults shelf.new) }
     ensures missing { IsMissing result → Rose (F.misses shelf.old) (F.misses shelf.new) }
 {
-    let mut files = Vec::with_capacity(alloc, names.len())?;
+    let mut read = Vec::with_capacity(alloc, names.len())?;
     let mut room = most;
     for name in names {
-        let file = read_file(alloc, shelf, text_of(name), room)?;
-        room -= file.bytes.len() as u32;
-        files.push(file)?;
+        room = read_next(alloc, shelf, &mut read, name, room)?;
     }
-    Ok(files)
+    Ok(read)
 }
 
 /// A name as the text that it is.

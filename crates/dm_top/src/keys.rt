@@ -2,8 +2,9 @@ ghost use Rattle.std.specs.Prelude.{◌≡◌, ◌∷◌, [], Some, None, IfOk, 
 ghost use Rattle.std.specs.List.{list_any};
 ghost use Rattle.std.specs.BTreeMap.{values};
 ghost use Rattle.dm_schema.specs.Names.{repeats};
-ghost use Rattle.dm_top.specs.Load.{is_null, values_under, same_row};
-ghost use Rattle.dm_top.specs.Merge.{added};
+ghost use Rattle.dm_top.specs.Load.{is_null, unique_values, values_under, same_row};
+ghost use Rattle.dm_top.specs.Merge.{added, noted};
+ghost use Rattle.std.specs.Option.{option_to_list};
 
 use dm_schema::{Schema, UniqueKey, values_at};
 use dm_value::{Row, Value};
@@ -32,6 +33,24 @@ fn has_null(values: &[Value]) -> bool
     values.iter().any(|value| matches!(value, Value::Null))
 }
 
+/// A row's values under a key; none where a NULL is among them.
+fn unique_values(
+    alloc: Global,
+    joined: &Schema,
+    key: &UniqueKey,
+    row: &Row,
+) -> Result<Option<Row>, AllocError>
+    ensures { IfOk result (λ values. values ≡ unique_values joined.now key.now row.now) }
+{
+    let columns = joined.columns();
+    let values = values_at(alloc, columns, row.as_slice(), key.columns.as_slice())?;
+    if has_null(&values) {
+        Ok(None)
+    } else {
+        Ok(Some(Row::new(values)))
+    }
+}
+
 /// Whether two rows have the same values under a key.
 fn repeat_under(
     alloc: Global,
@@ -43,22 +62,26 @@ fn repeat_under(
 {
     let mut seen = BTreeMap::new(alloc);
     for row in rows.values() {
-        let values = values_at(
-            alloc,
-            joined.columns(),
-            row.as_slice(),
-            key.columns.as_slice(),
-        )?;
-        if !has_null(&values) && !see(&mut seen, Row::new(values))? {
+        let values = unique_values(alloc, joined, key, row)?;
+        if !see(&mut seen, values)? {
             return Ok(true);
         }
     }
     Ok(false)
 }
 
-/// Notes values; whether they weren't there yet.
-fn see(seen: &mut BTreeMap<Row, ()>, values: Row) -> Result<bool, AllocError>
-    ensures { IfOk result (λ new. added seen.old.entries ((values, tt) ∷ []) ≡ (if new then Some seen.new.entries else None)) }
+/// Notes values, where there are any; whether they weren't there yet.
+fn see(seen: &mut BTreeMap<Row, ()>, values: Option<Row>) -> Result<bool, AllocError>
+    ensures { IfOk result (λ new. added seen.old.entries (noted (option_to_list values)) ≡ (if new then Some seen.new.entries else None)) }
+{
+    match values {
+        Some(values) => insert(seen, values),
+        None => Ok(true),
+    }
+}
+
+fn insert(seen: &mut BTreeMap<Row, ()>, values: Row) -> Result<bool, AllocError>
+    ensures { IfOk result (λ new. added seen.old.entries (noted (values ∷ [])) ≡ (if new then Some seen.new.entries else None)) }
 {
     let before = seen.insert(values, ())?;
     Ok(before.is_none())

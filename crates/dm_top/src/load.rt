@@ -1,4 +1,4 @@
-ghost use Rattle.std.specs.Prelude.{◌≡◌, ◌≢◌, ◌<◌, ◌≤◌, ⊤, Err, length, All, IfSome, IfOk, IfErr, IsErrAnd, MatchBool, IsTrue};
+ghost use Rattle.std.specs.Prelude.{◌≡◌, ◌≢◌, ◌≤◌, ⊤, Err, length, All, IfSome, IfOk, IfErr, IsErrAnd, MatchBool, IsTrue};
 ghost use Rattle.std.specs.Str.{IsUtf8};
 ghost use Rattle.dm_base.specs.Outside.{Rose};
 ghost use Rattle.dm_top.specs.Reading.{named_of};
@@ -42,8 +42,7 @@ pub fn files_or_end<F: Shelf>(
 
 /// What `load` prints of the files of these names, or how it ends.
 pub fn load<F: Shelf>(alloc: Global, shelf: &mut F, names: &[Bytes]) -> Result<Bytes, Status>
-    requires text { All IsUtf8 names.now }
-    requires some { 0 < length names.now }
+    requires { All IsUtf8 names.now }
     ensures told { IfSome (F.files shelf.old) (λ files. MatchBool (is_free result) ⊤ (Loads files names.now result)) }
     ensures refusal { IfErr result (λ s. IsTrue (is_refusal s)) }
     ensures usage { result ≢ Err Status.Usage }
@@ -59,8 +58,7 @@ pub fn load<F: Shelf>(alloc: Global, shelf: &mut F, names: &[Bytes]) -> Result<B
 
 /// What is printed of these files, or how `load` ends at them.
 fn merged(alloc: Global, files: Vec<NamedFile>) -> Result<Bytes, Status>
-    requires sizes { All (λ f. length f.bytes.items ≤ MOST_BYTES) files.items }
-    requires some { 0 < length files.items }
+    requires { All (λ f. length f.bytes.items ≤ MOST_BYTES) files.items }
     ensures merges { MatchBool (is_free result) ⊤ (Merges (named_of files.items) result) }
     ensures own { IfErr result (λ s. IsTrue (is_own s)) }
 {

@@ -1,10 +1,10 @@
-ghost use Rattle.std.specs.Prelude.{◌≡◌, ◌<◌, [], Ok, length, option_map, IfOk};
+ghost use Rattle.std.specs.Prelude.{◌≡◌, [], Ok, option_map, IfOk, IfErr, IsTrue};
 ghost use Rattle.dm_list.specs.Answer.{Answers};
 ghost use Rattle.dm_top.specs.Rows.{all_entries};
-ghost use Rattle.dm_top.specs.Load.{load_table, merged_over, merged_of};
+ghost use Rattle.dm_top.specs.Load.{load_table, merged_over, merged_from, merged_of};
 ghost use Rattle.dm_top.specs.Merge.{added};
 ghost use Rattle.dm_top.specs.Sources.{said_of};
-ghost use Rattle.dm_top.specs.Top.{is_memory};
+ghost use Rattle.dm_top.specs.Top.{is_memory, is_own};
 
 use crate::keys::share_unique;
 use crate::limits::{MOST_ITEMS, MOST_VALUES};
@@ -48,7 +48,8 @@ fn load_table(alloc: Global) -> Result<TableName, AllocError>
 
 /// The text of the sources' rows over the join of their schemas.
 fn merged_over(alloc: Global, joined: &Schema, sources: &[Source]) -> Result<Bytes, Status>
-    ensures { Answers is_memory result (merged_over (Ok joined.now) (said_of sources.now)) }
+    ensures merged { Answers is_memory result (merged_over (Ok joined.now) (said_of sources.now)) }
+    ensures own { IfErr result (λ s. IsTrue (is_own s)) }
 {
     let Some(rows) = rows_of(alloc, joined, sources)? else {
         return Err(Status::Unlawful);
@@ -62,8 +63,8 @@ fn merged_over(alloc: Global, joined: &Schema, sources: &[Source]) -> Result<Byt
 /// The text of dumps that are merged, or how it ends: too many rows, too many values, schemas without a join, rows
 /// with one key.
 pub fn merged_text(alloc: Global, sources: &[Source]) -> Result<Bytes, Status>
-    requires { 0 < length sources.now }
-    ensures { Answers is_memory result (merged_of (said_of sources.now)) }
+    ensures merged { Answers is_memory result (merged_of (said_of sources.now)) }
+    ensures own { IfErr result (λ s. IsTrue (is_own s)) }
 {
     if exceed_items(sources, MOST_ITEMS) {
         return Err(Status::Limit {
@@ -74,6 +75,17 @@ pub fn merged_text(alloc: Global, sources: &[Source]) -> Result<Bytes, Status>
         return Err(Status::Limit {
             which: Which::Values,
         });
+    }
+    merged_from(alloc, sources)
+}
+
+/// The text of dumps that aren't too many; empty where there is none.
+fn merged_from(alloc: Global, sources: &[Source]) -> Result<Bytes, Status>
+    ensures merged { Answers is_memory result (merged_from (said_of sources.now)) }
+    ensures own { IfErr result (λ s. IsTrue (is_own s)) }
+{
+    if sources.is_empty() {
+        return Ok(Bytes::new(Vec::new(alloc)));
     }
     let schemas = schemas_of(alloc, sources)?;
     match join(alloc, &schemas) {

@@ -1,8 +1,9 @@
-ghost use Rattle.std.specs.Prelude.{◌≡◌, ◌≢◌, ⊤, Err, map, string_bytes, IfSome, IfErr, IsErrAnd, MatchBool, IsTrue};
+ghost use Rattle.std.specs.Prelude.{◌≡◌, ◌≢◌, ⊤, Some, Err, map, string_bytes, All, IfSome, IfErr, IsErrAnd, MatchBool, IsTrue};
+ghost use Rattle.std.specs.Str.{IsUtf8};
 ghost use Rattle.std.specs.Result.{ForErr};
 ghost use Rattle.dm_base.specs.Outside.{Rose};
-ghost use Rattle.dm_words.specs.Words.{order_of};
-ghost use Rattle.dm_top.specs.Top.{is_free, is_known, is_missing, is_refusal, AnswersWords, Ends, Runs};
+ghost use Rattle.dm_words.specs.Words.{order_of, files_of};
+ghost use Rattle.dm_top.specs.Top.{is_free, is_known, is_missing, is_refusal, AnswersOrder, AnswersWords, Ends, Runs};
 
 use crate::check::check_task;
 use crate::load::load;
@@ -45,10 +46,27 @@ fn answer<F: Shelf>(alloc: Global, words: &[String], shelf: &mut F) -> Result<By
     ensures missing { IsErrAnd result (λ s. IsTrue (is_missing s)) → Rose (F.misses shelf.old) (F.misses shelf.new) }
 {
     match read_words(alloc, words) {
-        Ok(Order::Load { files }) => load(alloc, shelf, files.as_slice()),
-        Ok(Order::CheckTask { file }) => check_task(alloc, shelf, file),
-        Ok(_) | Err(WordFault::Usage) => Err(Status::Usage),
+        Ok(order) => carry_out(alloc, order, shelf),
+        Err(WordFault::Usage) => Err(Status::Usage),
         Err(WordFault::Memory) => Err(Status::Memory),
+    }
+}
+
+/// What an order prints, or how it ends.
+fn carry_out<F: Shelf>(alloc: Global, order: Order, shelf: &mut F) -> Result<Bytes, Status>
+    requires { All IsUtf8 (files_of order) }
+    ensures told { IfSome (F.files shelf.old) (λ files. MatchBool (is_free result) ⊤ (AnswersOrder files (Some order) result)) }
+    ensures usage { MatchBool (is_known (Some order)) (result ≢ Err Status.Usage) (MatchBool (is_free result) ⊤ (result ≡ Err Status.Usage)) }
+    ensures refusal { IfErr result (λ s. IsTrue (is_refusal s)) }
+
+    ensures files { F.files shelf.new ≡ F.files shelf.old }
+    ensures read { result ≡ Err Status.ReadFault → Rose (F.faults shelf.old) (F.faults shelf.new) }
+    ensures missing { IsErrAnd result (λ s. IsTrue (is_missing s)) → Rose (F.misses shelf.old) (F.misses shelf.new) }
+{
+    match order {
+        Order::Load { files } => load(alloc, shelf, files.as_slice()),
+        Order::CheckTask { file } => check_task(alloc, shelf, file),
+        Order::Run { .. } | Order::Show | Order::Gen { .. } => Err(Status::Usage),
     }
 }
 

@@ -70,7 +70,7 @@ fn widened_cell(
 }
 
 fn filled(alloc: Global, column: &Column) -> Result<Value, AllocError>
-    ensures { IfOk result (λ value. value ≡ unwrap_or (fill column.now) value.Null) }
+    ensures { IfOk result (λ found. found ≡ unwrap_or (fill column.now) value.Null) }
 {
     match fill(alloc, column)? {
         Some(value) => Ok(value),

@@ -1,7 +1,8 @@
-ghost use Rattle.std.specs.Prelude.{◌≡◌, ◌<◌, ◌^◌, ℕ, length, nat_lt, All, IfOk};
+ghost use Rattle.std.specs.Prelude.{◌≡◌, ◌<◌, ◌^◌, length, nat_lt, All, IfOk, IfErr, IsTrue};
 ghost use Rattle.dm_top.specs.Reading.{named_of};
 ghost use Rattle.dm_top.specs.Sources.{ReadsSource, ReadsSources, said_of, schemas_of};
 ghost use Rattle.dm_top.specs.Load.{items_of, values_of};
+ghost use Rattle.dm_top.specs.Top.{is_own};
 
 use crate::files::NamedFile;
 use dm_dump::{Dump, DumpFault, read_dump};
@@ -19,7 +20,8 @@ pub struct Source {
 
 fn read_source(alloc: Global, file: NamedFile) -> Result<Source, Status>
     requires { length file.bytes.items < 2 ^ 32 }
-    ensures { ReadsSource (file.name, file.bytes.items) result }
+    ensures said { ReadsSource (file.name, file.bytes.items) result }
+    ensures own { IfErr result (λ s. IsTrue (is_own s)) }
 {
     match read_dump(alloc, &file.bytes) {
         Ok(dump) => Ok(Source { file, dump }),
@@ -35,7 +37,8 @@ fn read_source(alloc: Global, file: NamedFile) -> Result<Source, Status>
 /// The files with the dumps that they are, or the first that is none.
 pub fn read_sources(alloc: Global, files: Vec<NamedFile>) -> Result<Vec<Source>, Status>
     requires { All (λ f. length f.bytes.items < 2 ^ 32) files.items }
-    ensures { ReadsSources (named_of files.items) result }
+    ensures said { ReadsSources (named_of files.items) result }
+    ensures own { IfErr result (λ s. IsTrue (is_own s)) }
 {
     let mut sources = Vec::with_capacity(alloc, files.len())?;
     for file in files {

@@ -1,8 +1,7 @@
 use Rattle.std.proofs.Common.{◌≡◌, []}
 use Rattle.std.specs.BTreeMap.{values}
 use Rattle.dm_top.specs.Load.{values_under}
-use Rattle.dm_top.specs.Merge.{added}
-use Rattle.dm_top.proofs.Adding.{noted}
+use Rattle.dm_top.specs.Merge.{added, noted}
 use Rattle.dm_top.proofs.keys.repeat_under.Given as goal
 
 abbrev pub invariant-loop-row : goal.invariant-loop-row
