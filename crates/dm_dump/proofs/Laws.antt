@@ -309,13 +309,17 @@ abbrev places_in : Result Inserts DumpFault → List ℕ
 places_in (Ok i) = i.places
 places_in (Err f) = []
 
+-- the rows of a dump's INSERTs, each with the order that is in force there
+abbrev pub rows_in : List ℕ → List ℕ → Layout → Contents → List RowAt
+rows_in text table layout all = rows_added text table layout.columns nothing (units all.pieces)
+
 -- Each place of a good answer is that of a row, in the order that is in force there.
 pub rows_stand : (text table : List ℕ) (layout : Layout) (all : Contents) (inserts : Inserts) → is_formed layout ≡ true → rows_of text table layout all ≡ Ok inserts
-    → (rows : List RowAt) × (inserts.places ≡ places_of rows) × AllStand text layout rows
+    → (inserts.places ≡ places_of (rows_in text table layout all)) × AllStand text layout (rows_in text table layout all)
 rows_stand text table layout all inserts formed answer =
     let us = units all.pieces in
     let own = own_order layout formed in
-    (rows_added text table layout.columns nothing us, good (least (gathered text table layout.columns us).fault (least (second_create (second_place us)) all.ending)) answer ∙ all_places text table layout.columns us nothing, all_stand text table layout us nothing own (inl refl))
+    (good (least (gathered text table layout.columns us).fault (least (second_create (second_place us)) all.ending)) answer ∙ all_places text table layout.columns us nothing, all_stand text table layout us nothing own (inl refl))
   where
     good : (o : Option Fault) → unless o (record { places = (gathered text table layout.columns (units all.pieces)).places; orders = (gathered text table layout.columns (units all.pieces)).orders }) ≡ Ok inserts
         → inserts.places ≡ (gathered text table layout.columns (units all.pieces)).places
