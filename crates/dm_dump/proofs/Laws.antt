@@ -1,6 +1,6 @@
 -- Laws of the rows of a dump: each place that a good answer has is one from which a row is read again, in the order of
 -- literals that is in force there.
-use Rattle.std.proofs.Common.{◌≡◌, ◌==◌, ℕ, suc, ◌+◌, ◌<◌, Bool, true, false, not, cond, ◌&&◌, ◌||◌, eqb, leb, List, [], ◌∷◌, ◌++◌, map, fold, drop, length, Option, Some, None, Result, Ok, Err, is_some, is_none, refl, sym, ap, ◌∙◌, subst, ◌⊎◌, inl, inr, arith, append_assoc, append-nil}
+use Rattle.std.proofs.Common.{◌≡◌, ◌==◌, ℕ, suc, Bool, true, false, not, cond, ◌&&◌, ◌||◌, leb, List, [], ◌∷◌, ◌++◌, map, fold, drop, length, Option, Some, None, Result, Ok, Err, is_some, is_none, refl, sym, ap, ◌∙◌, subst, ◌⊎◌, inl, inr, arith, append_assoc, append-nil}
 use Rattle.std.specs.Option.{option_map, option_to_list}
 use Rattle.std.specs.List.{list_any, list_all}
 use Rattle.std.specs.Cmp.Lexicographic.{same_text}
@@ -9,12 +9,11 @@ use Rattle.std.proofs.lemmas.Cmp.{nat_list_eq_equiv}
 use Rattle.dm_list.specs.Answer.{first_refusal}
 use Rattle.dm_value.specs.declared.value.Value.{Value}
 use Rattle.dm_schema.specs.declared.column.Column.{Column}
-use Rattle.dm_schema.specs.declared.fault.SchemaFault.{SchemaFault}
 use Rattle.dm_schema.specs.declared.fault.SchemaFault.TheVariants as schema_fault
 use Rattle.dm_schema.specs.Kinds.{is_column, is_key}
 use Rattle.dm_schema.specs.Layout.{Layout}
-use Rattle.dm_schema.specs.Names.{Text, same_name, column_at, column_names, has_column, repeats}
-use Rattle.dm_schema.specs.Schemas.{all_columns, names_repeat, column_repeats, key_repeats, some_key_repeats_names, has_nullable, is_unfit_default, refusals, is_formed}
+use Rattle.dm_schema.specs.Names.{Text, same_name, column_at, column_names, has_column}
+use Rattle.dm_schema.specs.Schemas.{all_columns, names_repeat, column_repeats, key_repeats, some_key_repeats_names, refusals, is_formed}
 use Rattle.dm_syntax.specs.declared.piece.Piece.{Piece}
 use Rattle.dm_syntax.specs.Pieces.{has_role}
 use Rattle.dm_dump.specs.declared.fault.Fault.{Fault}
@@ -26,8 +25,8 @@ use Rattle.dm_dump.specs.Reading.{Contents}
 use Rattle.dm_dump.specs.Units.{units}
 use Rattle.dm_dump.specs.Outlines.{least, second_place, second_create}
 use Rattle.dm_dump.specs.Literals.{has_bracket, literals_at, value_in, values_of, first_unfit}
-use Rattle.dm_dump.specs.Orders.{is_order, columns_by, stand_so, in_schema_order, values_in, row_of}
-use Rattle.dm_dump.specs.Rows.{Gathered, nothing, names_other, lacks_column, head_fault, order_in, unfit, row_fault, with_order, with_head, with_place, with_row, with_unit, gathered, unless, unless_inserts, rows_of}
+use Rattle.dm_dump.specs.Orders.{is_order, columns_by, stand_so, in_schema_order, row_of}
+use Rattle.dm_dump.specs.Rows.{Gathered, nothing, names_other, lacks_column, head_fault, order_in, unfit, row_fault, with_order, with_head, with_row, with_unit, gathered, unless, rows_of}
 
 equal_names : (a b : Text) → same_name a b ≡ true → a ≡ b
 equal_names a b h = same_text a b (sym h)
@@ -310,13 +309,17 @@ abbrev places_in : Result Inserts DumpFault → List ℕ
 places_in (Ok i) = i.places
 places_in (Err f) = []
 
+-- the rows of a dump's INSERTs, each with the order that is in force there
+abbrev pub rows_in : List ℕ → List ℕ → Layout → Contents → List RowAt
+rows_in text table layout all = rows_added text table layout.columns nothing (units all.pieces)
+
 -- Each place of a good answer is that of a row, in the order that is in force there.
 pub rows_stand : (text table : List ℕ) (layout : Layout) (all : Contents) (inserts : Inserts) → is_formed layout ≡ true → rows_of text table layout all ≡ Ok inserts
-    → (rows : List RowAt) × (inserts.places ≡ places_of rows) × AllStand text layout rows
+    → (inserts.places ≡ places_of (rows_in text table layout all)) × AllStand text layout (rows_in text table layout all)
 rows_stand text table layout all inserts formed answer =
     let us = units all.pieces in
     let own = own_order layout formed in
-    (rows_added text table layout.columns nothing us, good (least (gathered text table layout.columns us).fault (least (second_create (second_place us)) all.ending)) answer ∙ all_places text table layout.columns us nothing, all_stand text table layout us nothing own (inl refl))
+    (good (least (gathered text table layout.columns us).fault (least (second_create (second_place us)) all.ending)) answer ∙ all_places text table layout.columns us nothing, all_stand text table layout us nothing own (inl refl))
   where
     good : (o : Option Fault) → unless o (record { places = (gathered text table layout.columns (units all.pieces)).places; orders = (gathered text table layout.columns (units all.pieces)).orders }) ≡ Ok inserts
         → inserts.places ≡ (gathered text table layout.columns (units all.pieces)).places

@@ -1,10 +1,10 @@
 -- Going over the units of a dump: what is found first, and what second.
-use Rattle.std.proofs.Common.{◌≡◌, ℕ, Bool, true, false, cond, ◌&&◌, ◌||◌, List, [], ◌∷◌, Option, Some, None, refl, sym, ap, ◌∙◌, subst, is_some}
+use Rattle.std.proofs.Common.{◌≡◌, ℕ, Bool, true, false, cond, ◌&&◌, ◌||◌, List, [], ◌∷◌, Option, Some, None, refl, sym, ap, ◌∙◌, is_some}
 use Rattle.std.specs.Option.{option_or}
 use Rattle.dm_syntax.specs.declared.piece.Piece.{Piece}
 use Rattle.dm_dump.specs.declared.outline.Span.{Span}
 use Rattle.dm_dump.specs.declared.role.TheConstants as role
-use Rattle.dm_dump.specs.Units.{begins_with, place_of, next_place, is_create}
+use Rattle.dm_dump.specs.Units.{begins_with, is_create}
 use Rattle.dm_dump.specs.Reading.{Contents}
 use Rattle.dm_dump.specs.declared.fault.Fault.{Fault}
 use Rattle.dm_dump.specs.declared.outline.Outline.{Outline}

@@ -1,5 +1,5 @@
 -- Each terminal is below the grammar engine's bound.
-use Rattle.std.proofs.Common.{◌≡◌, ◌==◌, ℕ, ◌<◌, Bool, true, false, List, [], ◌∷◌, map, All, arith, cond, codes}
+use Rattle.std.proofs.Common.{◌==◌, ℕ, ◌<◌, Bool, true, false, List, [], ◌∷◌, map, All, arith, cond, codes}
 use Rattle.std.specs.List.{AllByRecursion}
 use Rattle.std.proofs.lemmas.List.Elements.{All-from_recursion}
 use Rattle.dm_lex.specs.declared.token.Token.{Token}

@@ -1,5 +1,5 @@
 -- Reading token by token: what one step leaves of a dump's contents.
-use Rattle.std.proofs.Common.{◌≡◌, ◌==◌, ℕ, suc, Bool, true, false, cond, not, List, [], ◌∷◌, ◌++◌, map, filter, drop, Option, Some, None, refl, sym, ap, ◌∙◌, subst, unwrap_or, ◌<◌, length, arith}
+use Rattle.std.proofs.Common.{◌≡◌, ◌==◌, ℕ, Bool, true, false, cond, List, [], ◌∷◌, filter, Option, Some, None, refl, sym, ap, ◌∙◌, subst, unwrap_or}
 use Rattle.std.specs.Option.{option_map}
 use Rattle.dm_grammar.specs.Grammar.{Grammar, unsupported}
 use Rattle.dm_grammar.specs.Determinism.{is_nullable}
@@ -10,14 +10,14 @@ use Rattle.dm_grammar.proofs.Prepend.{read_end}
 use Rattle.dm_grammar.proofs.Exact.{ready_reads}
 use Rattle.dm_lex.specs.declared.token.Token.{Token}
 use Rattle.dm_lex.specs.declared.token.LexFault.{LexFault}
-use Rattle.dm_lex.specs.Tokens.{Lexed, with_token, no_more, stopped, lexed_of}
+use Rattle.dm_lex.specs.Tokens.{Lexed, with_token, lexed_of}
 use Rattle.dm_syntax.specs.declared.piece.Piece.{Piece}
 use Rattle.dm_syntax.specs.Pieces.{pieces_of}
 use Rattle.dm_dump.specs.declared.fault.Fault as dump
 use Rattle.dm_dump.specs.declared.terminal.TheConstants as terminal
 use Rattle.dm_dump.specs.Terminals.{terminal_of, in_class}
 use Rattle.dm_dump.specs.Productions.{dump_grammar}
-use Rattle.dm_dump.specs.Reading.{kinds_of, number_of, counts, is_end, ending, Contents, contents, HasContents}
+use Rattle.dm_dump.specs.Reading.{kinds_of, number_of, counts, ending, Contents, contents, HasContents}
 use Rattle.dm_dump.specs.Streams.{contents_from, all_contents, begun_behind, with_first, with_piece, ended, stopped_at, ended_with}
 use Rattle.dm_dump.proofs.Ready.{dump_ready}
 use Rattle.dm_dump.proofs.Small.{kinds_small}

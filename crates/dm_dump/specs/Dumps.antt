@@ -1,7 +1,5 @@
 -- A dump that is loaded whole: one CREATE TABLE, and then its rows.
 use Rattle.std.specs.Prelude.{◌≡◌, ⊤, ℕ, ◌-◌, Bool, true, false, ◌&&◌, nat_lt, nat_le, List, length, take, drop, Option, Some, None, Result, Ok, Err, if◌then◌else◌}
-use Rattle.std.specs.Option.{option_map}
-use Rattle.dm_schema.specs.Layout.{Layout}
 use Rattle.dm_syntax.specs.declared.fault.DdlFault.{DdlFault}
 use Rattle.dm_syntax.specs.declared.fault.DdlFault.TheVariants as ddl
 use Rattle.dm_syntax.specs.declared.parsing.Extent.TheVariants as extent
@@ -19,7 +17,7 @@ use Rattle.dm_dump.specs.declared.outline.Outline.{Outline}
 use Rattle.dm_dump.specs.declared.inserts.Inserts.{Inserts}
 use Rattle.dm_dump.specs.declared.dump.Dump.{Dump}
 use Rattle.dm_dump.specs.declared.dump.Created.{Created}
-use Rattle.dm_dump.specs.Outlines.{least, HasOutline}
+use Rattle.dm_dump.specs.Outlines.{HasOutline}
 use Rattle.dm_dump.specs.Rows.{refused, unless, HasRows}
 
 -- What a call answered holds, or there was no memory.

@@ -5,7 +5,7 @@ use Rattle.dm_value.specs.declared.value.Value.{Value}
 use Rattle.dm_schema.specs.declared.column.Column.{Column}
 use Rattle.dm_schema.specs.Fits.{fits}
 use Rattle.dm_lex.specs.declared.token.Token.{Token}
-use Rattle.dm_lex.specs.Tokens.{LexerState, lexed}
+use Rattle.dm_lex.specs.Tokens.{lexed}
 use Rattle.dm_lex.specs.Literals.{literal_of}
 use Rattle.dm_syntax.specs.Pieces.{bytes_of}
 use Rattle.dm_dump.specs.declared.literal.Literal.{Literal}

@@ -8,7 +8,6 @@ use Rattle.dm_syntax.specs.declared.piece.Piece.{Piece}
 use Rattle.dm_syntax.specs.Pieces.{has_role, first_with}
 use Rattle.dm_syntax.specs.Names.{name_of, all_folded_with}
 use Rattle.dm_dump.specs.declared.fault.Fault.{Fault}
-use Rattle.dm_dump.specs.declared.fault.DumpCause.{DumpCause}
 use Rattle.dm_dump.specs.declared.fault.DumpCause.TheVariants as cause
 use Rattle.dm_dump.specs.declared.fault.DumpFault.{DumpFault}
 use Rattle.dm_dump.specs.declared.fault.DumpFault.TheVariants as fault

@@ -5,7 +5,7 @@ use Rattle.dm_grammar.specs.Reading.{read_from}
 use Rattle.dm_grammar.specs.Rests.{left}
 use Rattle.dm_lex.specs.declared.token.Token.{Token}
 use Rattle.dm_lex.specs.declared.token.LexFault.{LexFault}
-use Rattle.dm_lex.specs.Tokens.{Lexed, LexerState, with_token, lexed, lexed_of}
+use Rattle.dm_lex.specs.Tokens.{Lexed, with_token, lexed, lexed_of}
 use Rattle.dm_syntax.specs.declared.piece.Piece.{Piece}
 use Rattle.dm_dump.specs.declared.fault.Fault.{Fault}
 use Rattle.dm_dump.specs.declared.source.Source.{Source}

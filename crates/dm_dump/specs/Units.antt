@@ -1,5 +1,5 @@
 -- The units of a dump: a statement's beginning, or one row.
-use Rattle.std.specs.Prelude.{ℕ, Bool, false, ◌==◌, ◌&&◌, List, [], ◌∷◌, Option, length}
+use Rattle.std.specs.Prelude.{ℕ, Bool, false, ◌==◌, ◌&&◌, List, [], ◌∷◌, length}
 use Rattle.std.specs.List.{before_first}
 use Rattle.dm_syntax.specs.declared.piece.Piece.{Piece}
 use Rattle.dm_syntax.specs.Pieces.{begins, parts, has_role}
