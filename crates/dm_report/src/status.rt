@@ -15,18 +15,25 @@ pub enum Status {
     /// The words aren't a reading.
     Usage,
     /// The file isn't a task: the path of what is wrong, and the cause.
-    Task { path: Bytes, cause: TaskCause },
+    Task {
+        path: Bytes,
+        cause: TaskCause,
+    },
     /// A file couldn't be read.
     ReadFault,
     /// The text couldn't be written.
     WriteFault,
     Memory,
     /// A limit was passed.
-    Limit { which: Which },
+    Limit {
+        which: Which,
+    },
     /// Two rows have one key.
     Unlawful,
     /// There is no file of the name.
-    Missing { name: Bytes },
+    Missing {
+        name: Bytes,
+    },
     /// A file isn't a dump: the byte that shows it, and the cause.
     Dump {
         file: Bytes,

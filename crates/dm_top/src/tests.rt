@@ -64,10 +64,12 @@ fn ends_with(
 const FIRST: &[u8] = b"CREATE TABLE `t0` (`id` INT NOT NULL, `v` VARCHAR(20), PRIMARY KEY (`id`)); \
     INSERT INTO `t0` VALUES (1,'x'),(2,NULL);";
 
-const SECOND: &[u8] = b"CREATE TABLE `t1` (`id` INT NOT NULL, `v` VARCHAR(20), PRIMARY KEY (`id`)); \
+const SECOND: &[u8] =
+    b"CREATE TABLE `t1` (`id` INT NOT NULL, `v` VARCHAR(20), PRIMARY KEY (`id`)); \
     INSERT INTO `t1` VALUES (11,'it\\'s');";
 
-const FURTHER_COLUMN: &[u8] = b"CREATE TABLE t1 (id INT PRIMARY KEY, d INT DEFAULT 5, v VARCHAR(20));\n\
+const FURTHER_COLUMN: &[u8] =
+    b"CREATE TABLE t1 (id INT PRIMARY KEY, d INT DEFAULT 5, v VARCHAR(20));\n\
     INSERT INTO t1 (v, d, id) VALUES ('y', 6, 12);";
 
 const OTHER_FAMILY: &[u8] = b"CREATE TABLE t1 (id INT PRIMARY KEY, v INT)";
@@ -110,14 +112,30 @@ fn fills_a_column_that_a_dump_lacks(rt: HostRuntime) -> Result<(), Fail> {
         row (5,1,'x')\n\
         row (5,2,NULL)\n\
         row (6,12,'y')\n";
-    assert!(rt; ends_with(rt.alloc(), &LOAD_BOTH, files(&[FIRST, FURTHER_COLUMN]), 0, want)?);
+    assert!(rt;
+        ends_with(
+            rt.alloc(),
+            &LOAD_BOTH,
+            files(&[FIRST, FURTHER_COLUMN]),
+            0,
+            want
+        )?
+    );
     Ok(())
 }
 
 #[test]
 fn refuses_schemas_without_a_join(rt: HostRuntime) -> Result<(), Fail> {
     let want = b"fault First `load`.`load` NoJoin `v` Family\n";
-    assert!(rt; ends_with(rt.alloc(), &LOAD_BOTH, files(&[FIRST, OTHER_FAMILY]), 13, want)?);
+    assert!(rt;
+        ends_with(
+            rt.alloc(),
+            &LOAD_BOTH,
+            files(&[FIRST, OTHER_FAMILY]),
+            13,
+            want
+        )?
+    );
     Ok(())
 }
 
@@ -125,7 +143,15 @@ fn refuses_schemas_without_a_join(rt: HostRuntime) -> Result<(), Fail> {
 fn refuses_rows_with_one_key(rt: HostRuntime) -> Result<(), Fail> {
     let alloc = rt.alloc();
     let want = b"fault Unlawful\n";
-    assert!(rt; ends_with(alloc, &["load", "a.sql", "a.sql"], files(&[FIRST]), 10, want)?);
+    assert!(rt;
+        ends_with(
+            alloc,
+            &["load", "a.sql", "a.sql"],
+            files(&[FIRST]),
+            10,
+            want
+        )?
+    );
     assert!(rt; ends_with(alloc, &LOAD_BOTH, files(&[UNIQUE, UNIQUE_AGAIN]), 10, want)?);
     Ok(())
 }
@@ -161,7 +187,15 @@ fn names_the_byte_at_which_a_file_is_no_dump(rt: HostRuntime) -> Result<(), Fail
     let want = b"fault Dump a.sql 0 NoCreate\n";
     assert!(rt; ends_with(alloc, &["load", "a.sql"], files(&[b""]), 12, want)?);
     let want = b"fault Dump b.sql 3 Statement\n";
-    assert!(rt; ends_with(alloc, &LOAD_BOTH, files(&[FIRST, b"-- \nno dump"]), 12, want)?);
+    assert!(rt;
+        ends_with(
+            alloc,
+            &LOAD_BOTH,
+            files(&[FIRST, b"-- \nno dump"]),
+            12,
+            want
+        )?
+    );
     Ok(())
 }
 
@@ -194,7 +228,15 @@ fn says_where_the_shards_of_a_task_go(rt: HostRuntime) -> Result<(), Fail> {
     let want = b"task m sources 2 shards 2 tables 1\n\
         shard a `s`.`t0` to `m`.`t`\n\
         shard b `s`.`t1` to `m`.`t`\n";
-    assert!(rt; ends_with(rt.alloc(), &["check-task", "a.sql"], files(&[TASK]), 0, want)?);
+    assert!(rt;
+        ends_with(
+            rt.alloc(),
+            &["check-task", "a.sql"],
+            files(&[TASK]),
+            0,
+            want
+        )?
+    );
     Ok(())
 }
 

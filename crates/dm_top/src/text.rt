@@ -36,7 +36,14 @@ pub fn text_of(
     let mut out = Vec::new(alloc);
     let columns = schema.columns();
     let primary = schema.primary().as_slice();
-    push_head(alloc, &mut out, columns, primary, schema.uniques(), rows.len() as u64)?;
+    push_head(
+        alloc,
+        &mut out,
+        columns,
+        primary,
+        schema.uniques(),
+        rows.len() as u64,
+    )?;
     push_rows(alloc, &mut out, columns, rows)?;
     Ok(Bytes::new(out))
 }
