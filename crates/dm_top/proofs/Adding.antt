@@ -16,7 +16,7 @@ use Rattle.dm_report.specs.declared.status.Status.{Status}
 use Rattle.dm_report.specs.declared.status.Status.TheVariants as status
 use Rattle.dm_report.specs.Texts.{table_text}
 use Rattle.dm_top.specs.declared.sources.Source.{Source}
-use Rattle.dm_top.specs.Rows.{Row, Entry, Said, Orders, orders_at, row_under, rows_from, entries_of, all_entries}
+use Rattle.dm_top.specs.Rows.{Row, Entry, entries_of, all_entries}
 use Rattle.dm_top.specs.Load.{same_row, keys_of, map_of, values_under, rows_by_key, clash, merged_text}
 use Rattle.dm_top.specs.Merge.{added, noted}
 use Rattle.dm_top.specs.Sources.{said_in, said_of}
@@ -53,17 +53,6 @@ goes_on es more now b rest call = added_append es more rest ∙ ap (λ found. op
   by : (b : Bool) → option_and_then (λ es. added es rest) (cond b (Some now) None) ≡ cond b (added now rest) None
   by true = refl
   by false = refl
-
-pub at_place : (f : Row → Entry) (text : Text) (schema : Layout) (o seen : Orders) (places : List ℕ) (i at : ℕ) (es now : List Entry) (new : Bool) (total : Option (List Entry)) → i < length places → at ≡ get_or places i at → seen ≡ orders_at at o
-    → added es (map f (row_under text schema seen at)) ≡ cond new (Some now) None → added es (map f (rows_from text schema o (drop i places))) ≡ total
-    → total ≡ cond new (added now (map f (rows_from text schema seen (drop (i + 1) places)))) None
-at_place f text schema o seen places i at es now new total lt here s call so_far =
-    let rest = drop (i + 1) places in
-    sym so_far ∙ at_drop_more (λ ps. added es (map f (rows_from text schema o ps))) places i at lt
-    ∙ ap (λ (p : ℕ). added es (map f (rows_from text schema o (p ∷ rest)))) (sym here)
-    ∙ ap (λ (q : Orders). added es (map f (row_under text schema q at ++ rows_from text schema q rest))) (sym s)
-    ∙ ap (added es) (map-append f (row_under text schema seen at) (rows_from text schema seen rest))
-    ∙ goes_on es (map f (row_under text schema seen at)) now new (map f (rows_from text schema seen rest)) call
 
 pub at_source : (joined : Layout) (sources : List Source) (i : ℕ) (source : Source) (es now : List Entry) (all : Bool) (total : Option (List Entry)) → i < length sources → source ≡ get_or sources i source
     → added es (entries_of joined (said_in source)) ≡ cond all (Some now) None → added es (all_entries joined (said_of (drop i sources))) ≡ total

@@ -2,4 +2,3 @@ mod Adding
 mod Gathering
 mod Laws
 mod Merging
-mod Reading
