@@ -26,7 +26,6 @@ use Rattle.dm_report.specs.declared.status.Status.TheVariants as status
 use Rattle.dm_report.specs.declared.status.Which.{Which}
 use Rattle.dm_report.specs.declared.status.Which.TheVariants as which
 use Rattle.dm_report.specs.Texts.{table_text}
-use Rattle.dm_top.specs.declared.limits.TheConstants.{MOST_ITEMS, MOST_VALUES}
 use Rattle.dm_top.specs.Reading.{Named}
 use Rattle.dm_top.specs.Rows.{Said, Row, Entry, all_entries}
 
@@ -52,6 +51,14 @@ ReadsDumps [] outcome = outcome ≡ Ok []
 ReadsDumps (file ∷ files) outcome = (read : Result Dump DumpFault) × IsDump file.1 read × GoesOn (ReadsDumps files) file read outcome
 
 -- Limits.
+
+-- how many rows all dumps have together at most
+abbrev pub most_items : ℕ
+most_items = 4000000
+
+-- how many values all rows have together at most
+abbrev pub most_values : ℕ
+most_values = 64000000
 
 -- how many rows the dumps have
 abbrev pub items_of : List Said → ℕ
@@ -118,7 +125,7 @@ merged_from (first ∷ rest) = merged_over (join (map (λ s. s.dump.schema) (fir
 
 -- The text of dumps, or how it ends: too many rows, too many values, schemas without a join, rows that clash.
 abbrev pub merged_of : List Said → Result Text Status
-merged_of said = by (first_refusal ((nat_lt MOST_ITEMS (items_of said), which.Items) ∷ (nat_lt MOST_VALUES (values_of said), which.Values) ∷ [])) where
+merged_of said = by (first_refusal ((nat_lt most_items (items_of said), which.Items) ∷ (nat_lt most_values (values_of said), which.Values) ∷ [])) where
   by : Option Which → Result Text Status
   by (Some limit) = Err (status.Limit limit)
   by None = merged_from said

@@ -10,6 +10,10 @@ use Rattle.dm_top.specs.declared.files.NamedFile.{NamedFile}
 use Rattle.dm_top.specs.declared.files.ReadFault.{ReadFault}
 use Rattle.dm_top.specs.declared.files.ReadFault.TheVariants as fault
 
+-- how many bytes all files that a command reads have together at most
+abbrev pub most_bytes : ℕ
+most_bytes = 134217728
+
 -- a file: its name and its bytes
 abbrev pub Named : Type 0
 Named = Text × Text

@@ -14,9 +14,8 @@ use Rattle.dm_task.specs.TaskFile.{task_of}
 use Rattle.dm_words.specs.declared.order.Order.{Order}
 use Rattle.dm_words.specs.declared.order.Order.TheVariants as order
 use Rattle.dm_words.specs.Words.{order_of}
-use Rattle.dm_top.specs.declared.limits.TheConstants.{MOST_BYTES}
 use Rattle.dm_top.specs.declared.files.NamedFile.{NamedFile}
-use Rattle.dm_top.specs.Reading.{Named, named_of, files_of}
+use Rattle.dm_top.specs.Reading.{Named, most_bytes, named_of, files_of}
 use Rattle.dm_top.specs.Rows.{Said}
 use Rattle.dm_top.specs.Load.{ReadsDumps, merged_of}
 
@@ -63,8 +62,8 @@ is_own s = is_refusal s && not (is_usage s || is_read_fault s || is_missing s)
 
 -- what was read of files of these names, or how a command ends at the first that isn't read
 abbrev pub FilesOrEnd : Files → List Text → Result (Vec NamedFile) Status → Type 0
-FilesOrEnd files names (Ok read) = files_of files MOST_BYTES names ≡ Ok (named_of read.items)
-FilesOrEnd files names (Err s) = MatchBool (is_memory s || is_read_fault s) ⊤ (files_of files MOST_BYTES names ≡ Err s)
+FilesOrEnd files names (Ok read) = files_of files most_bytes names ≡ Ok (named_of read.items)
+FilesOrEnd files names (Err s) = MatchBool (is_memory s || is_read_fault s) ⊤ (files_of files most_bytes names ≡ Err s)
 
 -- Commands.
 
@@ -78,7 +77,7 @@ Merges files answer = (outcome : Result (List Said) Status) × ReadsDumps files 
 
 -- `load` of files of these names
 abbrev pub Loads : Files → List Text → Answer → Type 0
-Loads files names answer = MatchResult (files_of files MOST_BYTES names) (λ read. Merges read answer) (λ s. answer ≡ Err s)
+Loads files names answer = MatchResult (files_of files most_bytes names) (λ read. Merges read answer) (λ s. answer ≡ Err s)
 
 -- what is printed of a task, or the first fault of its file
 abbrev pub checked : Result Task TaskFault → Answer
@@ -92,7 +91,7 @@ checked_files (file ∷ files) = checked (task_of file.1)
 
 -- `check-task` of the file of this name
 abbrev pub Checks : Files → Text → Answer → Type 0
-Checks files name answer = MatchResult (files_of files MOST_BYTES (name ∷ [])) (λ read. answer ≡ checked_files read) (λ s. answer ≡ Err s)
+Checks files name answer = MatchResult (files_of files most_bytes (name ∷ [])) (λ read. answer ≡ checked_files read) (λ s. answer ≡ Err s)
 
 -- whether an order is one of those that are carried out
 abbrev pub is_known : Option Order → Bool
