@@ -30,11 +30,9 @@ use Rattle.dm_syntax.specs.Pieces.{bytes_of}
 use Rattle.dm_syntax.specs.Names.{unquoted, name_of}
 use Rattle.dm_reread.specs.Parts.{Part, text_of, tokens_from, lexed_as, spelling_of, spelled, is_spelled_before, is_spelled, may_follow, name_part, name_item, name_list_parts, table_name_parts, value_parts, tuple_parts, are_bytes, has_bytes, default_has_bytes, kind_parts, nullable_parts, default_parts, column_parts, primary_parts, unique_item, layout_parts, create_parts}
 use Rattle.dm_reread.specs.Read.{IsRead}
+pub use Rattle.dm_reread.proofs.Composing.{text_of_both, parts_are_lexed_at, parts_are_lexed, text_has_tokens, tokens_of_both, spelled_of_both, tokens_are_spelled, tokens_at_are_spelled, both_are_spelled}
 
 -- The text of parts is what is written.
-
-pub text_of_both : (front back : List Part) → text_of (front ++ back) ≡ text_of front ++ text_of back
-text_of_both front back = ?
 
 pub name_is_written : (name : List ℕ) → text_of (name_item name) ≡ quoted name
 name_is_written name = ?
@@ -60,37 +58,7 @@ column_is_written c = ?
 pub create_is_written : (name : List Part) (layout : Layout) → text_of (create_parts name layout) ≡ create_text (text_of name) layout
 create_is_written name layout = ?
 
--- The tokens of a text are those of its parts.
-
--- from a place on, where the parts stand before a text
-pub parts_are_lexed_at : (text : List ℕ) (at : ℕ) (parts : List Part) (behind : List ℕ) → drop at text ≡ text_of parts ++ behind → is_spelled_before behind parts ≡ true
-    → lexed_at text at ≡ with_front (tokens_from at parts) (lexed_at text (at + length (text_of parts)))
-parts_are_lexed_at text at parts behind here spells = ?
-
-pub parts_are_lexed : (at : ℕ) (parts : List Part) → is_spelled parts ≡ true → lexed_from at 0 (text_of parts) ≡ lexed_as at parts
-parts_are_lexed at parts spells = ?
-
-pub text_has_tokens : (parts : List Part) → is_spelled parts ≡ true → tokens_of (text_of parts) ≡ Ok (tokens_from 0 parts)
-text_has_tokens parts spells = ?
-
-pub tokens_of_both : (at : ℕ) (front back : List Part) → tokens_from at (front ++ back) ≡ tokens_from at front ++ tokens_from (at + length (text_of front)) back
-tokens_of_both at front back = ?
-
--- The tokens are spelled as the parts are.
-
-pub spelled_of_both : (front back : List Part) → spelled (front ++ back) ≡ spelled front ++ spelled back
-spelled_of_both front back = ?
-
-pub tokens_are_spelled : (text before behind : List ℕ) (parts : List Part) → text ≡ before ++ text_of parts ++ behind → map (spelling_of text) (tokens_from (length before) parts) ≡ spelled parts
-tokens_are_spelled text before behind parts is = ?
-
-pub tokens_at_are_spelled : (text : List ℕ) (at : ℕ) (parts : List Part) (behind : List ℕ) → drop at text ≡ text_of parts ++ behind → map (spelling_of text) (tokens_from at parts) ≡ spelled parts
-tokens_at_are_spelled text at parts behind here = ?
-
 -- What is written is spelled, before each text that may follow.
-
-pub both_are_spelled : (front back : List Part) (behind : List ℕ) → is_spelled_before (text_of back ++ behind) front ≡ true → is_spelled_before behind back ≡ true → is_spelled_before behind (front ++ back) ≡ true
-both_are_spelled front back behind first second = ?
 
 pub name_is_spelled : (name behind : List ℕ) → starts 96 behind ≡ false → is_spelled_before behind (name_item name) ≡ true
 name_is_spelled name behind ends = ?

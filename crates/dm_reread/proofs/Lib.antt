@@ -1,1 +1,4 @@
+pub mod Composing
+pub mod Follows
+pub mod Lexing
 pub mod Laws
