@@ -30,61 +30,10 @@ use Rattle.dm_syntax.specs.Pieces.{bytes_of}
 use Rattle.dm_syntax.specs.Names.{unquoted, name_of}
 use Rattle.dm_reread.specs.Parts.{Part, text_of, tokens_from, lexed_as, spelling_of, spelled, is_spelled_before, is_spelled, may_follow, name_part, name_item, name_list_parts, table_name_parts, value_parts, tuple_parts, are_bytes, has_bytes, default_has_bytes, kind_parts, nullable_parts, default_parts, column_parts, primary_parts, unique_item, layout_parts, create_parts}
 use Rattle.dm_reread.specs.Read.{IsRead}
+pub use Rattle.dm_reread.proofs.Written.{name_is_written, name_list_is_written, table_name_is_written, value_is_written, tuple_is_written, kind_is_written, column_is_written, create_is_written}
+pub use Rattle.dm_reread.proofs.Spelled.{name_is_spelled, name_list_is_spelled, table_name_is_spelled, value_is_spelled, tuple_is_spelled, kind_is_spelled, column_is_spelled, create_is_spelled}
+pub use Rattle.dm_reread.proofs.Digits.{number_is_read, decimal_is_digits, decimal_some}
 pub use Rattle.dm_reread.proofs.Composing.{text_of_both, parts_are_lexed_at, parts_are_lexed, text_has_tokens, tokens_of_both, spelled_of_both, tokens_are_spelled, tokens_at_are_spelled, both_are_spelled}
-
--- The text of parts is what is written.
-
-pub name_is_written : (name : List ℕ) → text_of (name_item name) ≡ quoted name
-name_is_written name = ?
-
-pub name_list_is_written : (names : List (List ℕ)) → text_of (name_list_parts names) ≡ name_list names
-name_list_is_written names = ?
-
-pub table_name_is_written : (t : TableName) → text_of (table_name_parts t) ≡ table_name_text t
-table_name_is_written t = ?
-
-pub value_is_written : (k : Kind) (v : Value) → text_of (value_parts k v) ≡ value_text k v
-value_is_written k v = ?
-
-pub tuple_is_written : (columns : List Column) (row : List Value) → text_of (tuple_parts columns row) ≡ tuple_text columns row
-tuple_is_written columns row = ?
-
-pub kind_is_written : (k : Kind) → text_of (kind_parts k) ≡ kind_text k
-kind_is_written k = ?
-
-pub column_is_written : (c : Column) → text_of (column_parts c) ≡ column_text c
-column_is_written c = ?
-
-pub create_is_written : (name : List Part) (layout : Layout) → text_of (create_parts name layout) ≡ create_text (text_of name) layout
-create_is_written name layout = ?
-
--- What is written is spelled, before each text that may follow.
-
-pub name_is_spelled : (name behind : List ℕ) → starts 96 behind ≡ false → is_spelled_before behind (name_item name) ≡ true
-name_is_spelled name behind ends = ?
-
-pub name_list_is_spelled : (names : List (List ℕ)) (behind : List ℕ) → is_spelled_before behind (name_list_parts names) ≡ true
-name_list_is_spelled names behind = ?
-
-pub table_name_is_spelled : (t : TableName) (behind : List ℕ) → starts 96 behind ≡ false → is_spelled_before behind (table_name_parts t) ≡ true
-table_name_is_spelled t behind ends = ?
-
-pub value_is_spelled : (k : Kind) (v : Value) (behind : List ℕ) → has_bytes v ≡ true → may_follow behind ≡ true → is_spelled_before behind (value_parts k v) ≡ true
-value_is_spelled k v behind bytes follows = ?
-
-pub tuple_is_spelled : (columns : List Column) (row : List Value) (behind : List ℕ) → list_all has_bytes row ≡ true → is_spelled_before behind (tuple_parts columns row) ≡ true
-tuple_is_spelled columns row behind bytes = ?
-
-pub kind_is_spelled : (k : Kind) (behind : List ℕ) → may_follow behind ≡ true → is_spelled_before behind (kind_parts k) ≡ true
-kind_is_spelled k behind follows = ?
-
-pub column_is_spelled : (c : Column) (behind : List ℕ) → default_has_bytes c ≡ true → may_follow behind ≡ true → is_spelled_before behind (column_parts c) ≡ true
-column_is_spelled c behind bytes follows = ?
-
--- of a table whose name is spelled before a blank
-pub create_is_spelled : (name : List Part) (layout : Layout) (behind : List ℕ) → ((more : List ℕ) → is_spelled_before (32 ∷ more) name ≡ true) → list_all default_has_bytes layout.columns ≡ true
-    → is_spelled_before behind (create_parts name layout) ≡ true
-create_is_spelled name layout behind named bytes = ?
 
 -- What is written is read.
 
@@ -97,11 +46,3 @@ name_is_read name = ?
 pub name_token_is_read : (text : List ℕ) (t : Token) (name : List ℕ) → spelling_of text t ≡ record { kind = token.Quoted; bytes = quoted name } → name_of text t ≡ name
 name_token_is_read text t name is = ?
 
-pub number_is_read : (n : ℕ) → n < 10 ^ 64 → number_of (decimal n) ≡ n
-number_is_read n small = ?
-
-pub decimal_is_digits : (n : ℕ) → list_all is_digit (decimal n) ≡ true
-decimal_is_digits n = ?
-
-pub decimal_some : (n : ℕ) → 1 ≤ length (decimal n)
-decimal_some n = ?

@@ -118,12 +118,12 @@ is_plain b h =
     record { blank = p1.0; hash = p1.1; dash = p2.1; slash = p3.1; backquote = p4.1; quote = p5.1; double_quote = p6.1; x = p7.1; capital_x = p8.1 }
 
 -- Where a byte passes, and no byte below a bound passes both tests, it doesn't pass the other.
-excludes : (test other : ℕ → Bool) (most b : ℕ) → agree_below (λ n. test n && other n) (λ n. false) most ≡ true → b < most → test b ≡ true → other b ≡ false
+pub excludes : (test other : ℕ → Bool) (most b : ℕ) → agree_below (λ n. test n && other n) (λ n. false) most ≡ true → b < most → test b ≡ true → other b ≡ false
 excludes test other most b apart below is = ap (λ (t : Bool). t && other b) (sym is) ∙ agree_below_at (λ n. test n && other n) (λ n. false) most b apart below
 
 -- Numbers.
 
-digit_below : (d : ℕ) → is_digit d ≡ true → d < 58
+pub digit_below : (d : ℕ) → is_digit d ≡ true → d < 58
 digit_below d is = let most = leb-true d 57 (and_parts (leb 48 d) (leb d 57) is).1 in omega (arith, most)
 
 digit_first : (d : ℕ) (xs : List ℕ) → is_digit d ≡ true → starts 120 xs ≡ false → lexeme_of (d ∷ xs) ≡ lexeme.Piece token.Number (number_length (d ∷ xs))
@@ -177,24 +177,21 @@ fraction_is_piece digits places behind some all more follows =
 
 -- Words.
 
--- capital letters up to W, and underscores
+-- a capital letter, but X, which may begin a hexadecimal literal
 abbrev is_letter : ℕ → Bool
-is_letter b = is_between 65 87 b
+is_letter b = is_between 65 90 b && not (eqb b 88)
 
-abbrev is_written : ℕ → Bool
-is_written b = is_between 65 90 b || eqb b 95
-
-letter_below : (b : ℕ) → is_letter b ≡ true → b < 88
-letter_below b is = let most = leb-true b 87 (and_parts (leb 65 b) (leb b 87) is).1 in omega (arith, most)
+letter_below : (b : ℕ) → is_letter b ≡ true → b < 91
+letter_below b is = let most = leb-true b 90 (and_parts (leb 65 b) (leb b 90) (and_parts (is_between 65 90 b) (not (eqb b 88)) is).0).1 in omega (arith, most)
 
 letter_first : (b : ℕ) (xs : List ℕ) → is_letter b ≡ true → lexeme_of (b ∷ xs) ≡ lexeme.Piece token.Word (prefix_len is_word_byte (b ∷ xs))
 letter_first b xs is =
-    let plain = is_plain b (excludes is_letter other_front 88 b refl (letter_below b is) is) in
-    let zero : eqb b 48 ≡ false = excludes is_letter (λ n. eqb n 48) 88 b refl (letter_below b is) is in
-    let letter : begins_word b ≡ true = not-false (begins_word b) (excludes is_letter (λ n. not (begins_word n)) 88 b refl (letter_below b is) is) in
+    let plain = is_plain b (excludes is_letter other_front 91 b refl (letter_below b is) is) in
+    let zero : eqb b 48 ≡ false = excludes is_letter (λ n. eqb n 48) 91 b refl (letter_below b is) is in
+    let letter : begins_word b ≡ true = not-false (begins_word b) (excludes is_letter (λ n. not (begins_word n)) 91 b refl (letter_below b is) is) in
     rw (plain.blank, plain.hash, plain.dash, plain.slash, plain.backquote, plain.quote, plain.double_quote, plain.x, plain.capital_x, zero, letter) refl
 
--- a word of capital letters, whose first comes before X
+-- a word that begins with such a letter
 abbrev pub is_capital_word : List ℕ → Bool
 is_capital_word bytes = at_front is_letter bytes && list_all is_word_byte bytes
 
