@@ -5,4 +5,6 @@ pub mod Written
 pub mod Digits
 pub mod Plain
 pub mod Spelled
+pub mod Decimals
+pub mod Names
 pub mod Laws
