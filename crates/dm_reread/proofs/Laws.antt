@@ -33,16 +33,6 @@ use Rattle.dm_reread.specs.Read.{IsRead}
 pub use Rattle.dm_reread.proofs.Written.{name_is_written, name_list_is_written, table_name_is_written, value_is_written, tuple_is_written, kind_is_written, column_is_written, create_is_written}
 pub use Rattle.dm_reread.proofs.Spelled.{name_is_spelled, name_list_is_spelled, table_name_is_spelled, value_is_spelled, tuple_is_spelled, kind_is_spelled, column_is_spelled, create_is_spelled}
 pub use Rattle.dm_reread.proofs.Digits.{number_is_read, decimal_is_digits, decimal_some}
+pub use Rattle.dm_reread.proofs.Names.{name_is_read, name_token_is_read, string_is_read}
+pub use Rattle.dm_reread.proofs.Reading.{value_is_read}
 pub use Rattle.dm_reread.proofs.Composing.{text_of_both, parts_are_lexed_at, parts_are_lexed, text_has_tokens, tokens_of_both, spelled_of_both, tokens_are_spelled, tokens_at_are_spelled, both_are_spelled}
-
--- What is written is read.
-
-pub value_is_read : (k : Kind) (nullable : Bool) (v : Value) → is_kind k ≡ true → fits_by k nullable v ≡ true → has_bytes v ≡ true → IsRead k v (value_parts k v)
-value_is_read k nullable v is fits bytes = ?
-
-pub name_is_read : (name : List ℕ) → unquoted (drop 1 (quoted name)) ≡ name
-name_is_read name = ?
-
-pub name_token_is_read : (text : List ℕ) (t : Token) (name : List ℕ) → spelling_of text t ≡ record { kind = token.Quoted; bytes = quoted name } → name_of text t ≡ name
-name_token_is_read text t name is = ?
-

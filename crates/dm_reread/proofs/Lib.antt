@@ -7,4 +7,6 @@ pub mod Plain
 pub mod Spelled
 pub mod Decimals
 pub mod Names
+pub mod Bounds
+pub mod Reading
 pub mod Laws
