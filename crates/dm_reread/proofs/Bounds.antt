@@ -1,5 +1,5 @@
 -- Numbers that fit a kind have no more digits than are written.
-use Rattle.std.proofs.Common.{◌≡◌, ℕ, zero, suc, ◌+◌, ◌-◌, ◌*◌, ◌^◌, ◌<◌, ◌≤◌, ℤ, pos, negsuc, neg_ℤ, int_lt, int_le, unsigned_abs, Bool, true, false, ◌&&◌, ◌||◌, ◌==◌, refl, arith, eqb, leb, ltb, lit<, eqb-true, leb-true, ltb-true, ◌⊎◌, inl, inr}
+use Rattle.std.proofs.Common.{◌≡◌, ℕ, zero, suc, ◌-◌, ◌*◌, ◌^◌, ◌<◌, ◌≤◌, ℤ, pos, negsuc, neg_ℤ, int_lt, int_le, unsigned_abs, Bool, true, false, ◌&&◌, ◌||◌, refl, arith, eqb, leb, lit<, eqb-true, leb-true, ltb-true, ◌⊎◌, inl, inr}
 use Rattle.std.proofs.lemmas.Bool.{and_parts, or_cases}
 use Rattle.std.proofs.Math.Nat.{pow-le-pow_right}
 use Rattle.dm_schema.specs.Kinds.{is_between, is_integer_size}

@@ -1,6 +1,5 @@
 -- From parts to tokens, part by part.
-use Rattle.std.proofs.Common.{◌≡◌, ℕ, zero, suc, ◌+◌, ◌-◌, ◌<◌, ◌≤◌, Bool, true, false, ◌&&◌, ◌==◌, List, [], ◌∷◌, ◌++◌, map, length, take, drop, replicate, Option, Some, None, Result, Ok, Err, refl, sym, ap, ◌∙◌, subst, append_assoc, append-nil, arith, eqb, eqb-true, eq-eqb, drop-drop, length-drop, drop_at, take_at}
-use Rattle.std.specs.List.{flat_map}
+use Rattle.std.proofs.Common.{◌≡◌, ℕ, zero, suc, ◌+◌, ◌-◌, ◌<◌, ◌≤◌, true, false, ◌==◌, List, [], ◌∷◌, ◌++◌, map, length, take, drop, replicate, None, Ok, refl, sym, ap, ◌∙◌, subst, append_assoc, append-nil, arith, eqb-true, eq-eqb, drop-drop, length-drop, drop_at, take_at}
 use Rattle.std.proofs.lemmas.Bool.{and_parts, and_from}
 use Rattle.std.proofs.lemmas.Grind.{flat_map-append}
 use Rattle.std.proofs.lemmas.List.{length-append}
@@ -10,7 +9,7 @@ use Rattle.dm_lex.specs.declared.token.TokenKind.TheVariants as token
 use Rattle.dm_lex.specs.declared.lexeme.Lexeme.{Lexeme}
 use Rattle.dm_lex.specs.declared.lexeme.Lexeme.TheVariants as lexeme
 use Rattle.dm_lex.specs.Lexemes.{is_blank, lexeme_of}
-use Rattle.dm_lex.specs.Tokens.{Lexed, with_token, no_more, lexed_from, lexed_of, all_tokens, tokens_of}
+use Rattle.dm_lex.specs.Tokens.{Lexed, with_token, lexed_from, all_tokens, tokens_of}
 use Rattle.dm_lex.specs.Places.{lexed_at}
 use Rattle.dm_lex.proofs.LexemeLemmas.{IsSound, lexeme_sound}
 use Rattle.dm_lex.proofs.TokenLemmas.{with_front, next_lexeme, at_end}

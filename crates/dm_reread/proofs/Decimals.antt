@@ -1,19 +1,18 @@
 -- Integers and decimals are read as they were written.
-use Rattle.std.proofs.Common.{◌≡◌, ℕ, zero, suc, ◌+◌, ◌-◌, ◌*◌, ◌/◌, ◌%◌, ◌^◌, ◌<◌, ◌≤◌, ℤ, pos, negsuc, neg_ℤ, int_lt, unsigned_abs, Bool, true, false, not, cond, ◌&&◌, ◌==◌, List, [], ◌∷◌, ◌++◌, length, take, drop, reverse, replicate, fold, Option, Some, None, refl, sym, ap, ◌∙◌, subst, append-nil, append_assoc, arith, eqb, leb, ltb, nat_le, nat_lt, eqb-true, le-leb, leb-true, drop_at, take_at, take_all, drop-drop, drop_of_length-le}
+use Rattle.std.proofs.Common.{◌≡◌, ℕ, zero, suc, ◌+◌, ◌-◌, ◌/◌, ◌%◌, ◌^◌, ◌<◌, ◌≤◌, Bool, true, false, cond, ◌&&◌, ◌==◌, List, [], ◌∷◌, ◌++◌, length, take, drop, reverse, replicate, fold, Option, Some, None, refl, sym, ap, ◌∙◌, subst, append-nil, append_assoc, arith, eqb, nat_le, nat_lt, eqb-true, le-leb, drop_at, take_at, take_all, drop-drop, drop_of_length-le}
 use Rattle.std.specs.List.{list_all, prefix_len, suffix_len}
 use Rattle.std.specs.Fmt.{decimal}
-use Rattle.std.proofs.lemmas.Bool.{and_parts, and_from, ne_eqb, lt-ltb}
+use Rattle.std.proofs.lemmas.Bool.{ne_eqb, lt-ltb}
 use Rattle.std.proofs.lemmas.List.{length-append, length-drop, length-reverse, reverse-append, reverse-reverse, replicate_more}
-use Rattle.std.proofs.lemmas.List.Sums.{fold-append, suffix_len-le-length, prefix_len-le-length}
+use Rattle.std.proofs.lemmas.List.Sums.{fold-append, suffix_len-le-length}
 use Rattle.std.proofs.Math.Nat.{pow-succ', div-div-eq-div-mul, div-le_self}
 use Rattle.dm_value.specs.declared.value.Dec.{Dec}
-use Rattle.dm_schema.specs.Kinds.{is_between}
 use Rattle.dm_time.specs.Texts.{with_digit, number_of}
 use Rattle.dm_time.specs.Written.{digits_of}
 use Rattle.dm_text.specs.Values.{places_text}
 use Rattle.dm_lex.specs.Lexemes.{is_digit, digits_length}
 use Rattle.dm_lex.specs.Literals.{with_sign, integer_of, fraction_of, is_decimal, decimal_of}
-use Rattle.dm_reread.proofs.Follows.{run_length, all_both}
+use Rattle.dm_reread.proofs.Follows.{run_length}
 use Rattle.dm_reread.proofs.Digits.{decimal_is_digits, decimal_some, digits_are_digits, number_is_read}
 
 nonzero : (n : ℕ) → 1 ≤ n → eqb n 0 ≡ false

@@ -1,11 +1,10 @@
 -- The digits that numbers are written in.
-use Rattle.std.proofs.Common.{◌≡◌, ℕ, zero, suc, ◌+◌, ◌-◌, ◌/◌, ◌%◌, ◌^◌, ◌<◌, ◌≤◌, Bool, true, false, cond, ◌&&◌, ◌==◌, List, [], ◌∷◌, ◌++◌, length, fold, refl, sym, ap, ◌∙◌, arith, eqb, leb, ltb, nat_lt, le-leb}
+use Rattle.std.proofs.Common.{◌≡◌, ℕ, zero, suc, ◌+◌, ◌/◌, ◌%◌, ◌^◌, ◌<◌, ◌≤◌, Bool, true, false, cond, ◌==◌, List, [], ◌∷◌, ◌++◌, length, refl, ◌∙◌, arith, leb, le-leb}
 use Rattle.std.specs.List.{list_all}
 use Rattle.std.specs.Fmt.{decimal, digits, digits_onto, digit_glyph}
-use Rattle.std.proofs.lemmas.Bool.{and_from, agree_below, agree_below_at}
+use Rattle.std.proofs.lemmas.Bool.{and_from, agree_below_at}
 use Rattle.std.proofs.lemmas.Fmt.{decimal_by_steps_wide}
 use Rattle.std.proofs.lemmas.List.Sums.{fold-append}
-use Rattle.dm_schema.specs.Kinds.{is_between}
 use Rattle.dm_time.specs.Texts.{with_digit, number_of}
 use Rattle.dm_time.specs.Written.{digits_of}
 use Rattle.dm_lex.specs.Lexemes.{is_digit}

@@ -1,21 +1,20 @@
 -- The lexemes of what is written: quoted names, strings, words and numbers.
-use Rattle.std.proofs.Common.{◌≡◌, ℕ, zero, suc, ◌+◌, ◌-◌, ◌/◌, ◌%◌, ◌<◌, ◌≤◌, Bool, true, false, not, ◌&&◌, ◌||◌, cond, List, [], ◌∷◌, ◌++◌, length, drop, Option, Some, None, refl, sym, ap, ◌∙◌, append_assoc, append-nil, arith, eqb, ltb, leb, eqb-true, drop_at, drop-drop}
+use Rattle.std.proofs.Common.{◌≡◌, ℕ, ◌+◌, ◌/◌, ◌%◌, ◌<◌, ◌≤◌, Bool, true, false, not, ◌&&◌, ◌||◌, cond, List, [], ◌∷◌, ◌++◌, length, drop, Some, refl, sym, ap, ◌∙◌, append_assoc, arith, eqb, ltb, leb, eqb-true, drop_at, drop-drop}
 use Rattle.std.specs.Prelude.{codes}
 use Rattle.std.specs.List.{flat_map, prefix_len, list_all}
 use Rattle.std.proofs.lemmas.Bool.{and_parts, and_from, and_left, and_right, or_parts, not-false, ltb-true, leb-true, agree_below, agree_below_at}
 use Rattle.std.proofs.lemmas.List.{length-append}
 use Rattle.dm_schema.specs.Kinds.{is_between}
 use Rattle.dm_text.specs.Names.{doubled, quoted}
-use Rattle.dm_text.specs.Values.{escaped, in_quotes, string_text, hex_digit, hex_pair, binary_text}
+use Rattle.dm_text.specs.Values.{escaped, string_text, hex_digit, hex_pair}
 use Rattle.dm_lex.specs.declared.token.TokenKind.{TokenKind}
 use Rattle.dm_lex.specs.declared.token.TokenKind.TheVariants as token
-use Rattle.dm_lex.specs.declared.lexeme.Lexeme.{Lexeme}
 use Rattle.dm_lex.specs.declared.lexeme.Lexeme.TheVariants as lexeme
 use Rattle.dm_lex.specs.Lexemes.{is_blank, is_digit, is_hex_digit, begins_word, is_word_byte, at_front, starts, longer, closed_length, string_length, name_length, digits_length, number_length, enclosed, lexeme_of}
 use Rattle.dm_lex.specs.Literals.{unescaped}
-use Rattle.dm_reread.specs.Parts.{Part, Piece, is_piece, is_spelled_before, may_follow, word, name_item, are_bytes}
+use Rattle.dm_reread.specs.Parts.{Piece, is_piece, is_spelled_before, may_follow, word, are_bytes}
 use Rattle.dm_reread.proofs.Composing.{is_piece_from}
-use Rattle.dm_reread.proofs.Follows.{Ends, ends, run_length, all_both}
+use Rattle.dm_reread.proofs.Follows.{ends, run_length}
 
 -- one token before a text
 pub one_is_spelled : (kind : TokenKind) (bytes behind : List ℕ) → is_piece kind (length bytes) (lexeme_of (bytes ++ behind)) ≡ true → is_spelled_before behind (Piece kind bytes ∷ []) ≡ true

@@ -9,4 +9,5 @@ pub mod Decimals
 pub mod Names
 pub mod Bounds
 pub mod Reading
+pub mod Rereading
 pub mod Laws

@@ -1,13 +1,13 @@
 -- Names and strings are read as they were written.
-use Rattle.std.proofs.Common.{◌≡◌, ℕ, zero, suc, ◌+◌, ◌≤◌, Bool, true, false, cond, List, [], ◌∷◌, ◌++◌, length, drop, refl, sym, ap, ◌∙◌, subst, append_assoc, arith, eqb, eqb-true}
+use Rattle.std.proofs.Common.{◌≡◌, ℕ, ◌≤◌, Bool, true, false, cond, List, [], ◌∷◌, ◌++◌, length, drop, refl, sym, ap, ◌∙◌, subst, arith, eqb, eqb-true}
 use Rattle.std.specs.List.{flat_map}
 use Rattle.std.proofs.lemmas.List.{length-append}
 use Rattle.dm_text.specs.Names.{doubled, quoted}
-use Rattle.dm_text.specs.Values.{escaped, in_quotes, string_text}
+use Rattle.dm_text.specs.Values.{escaped, string_text}
 use Rattle.dm_lex.specs.declared.token.Token.{Token}
 use Rattle.dm_lex.specs.declared.token.TokenKind.{TokenKind}
 use Rattle.dm_lex.specs.declared.token.TokenKind.TheVariants as token
-use Rattle.dm_lex.specs.Literals.{unescaped, string_of}
+use Rattle.dm_lex.specs.Literals.{string_of}
 use Rattle.dm_syntax.specs.Names.{unquoted, name_of}
 use Rattle.dm_syntax.specs.Pieces.{bytes_of}
 use Rattle.dm_reread.specs.Parts.{Spelling, spelling_of}

@@ -1,5 +1,5 @@
 -- Texts of days and moments are strings without escapes.
-use Rattle.std.proofs.Common.{◌≡◌, ℕ, zero, suc, ◌+◌, ◌-◌, ◌/◌, ◌%◌, ◌^◌, Bool, true, false, cond, ◌&&◌, ◌||◌, ◌==◌, List, [], ◌∷◌, ◌++◌, refl, sym, ap, ◌∙◌, codes, arith, eqb, leb, eqb-true, le-leb}
+use Rattle.std.proofs.Common.{◌≡◌, ℕ, zero, suc, ◌+◌, ◌-◌, ◌/◌, ◌%◌, ◌^◌, Bool, true, false, cond, ◌||◌, ◌==◌, List, [], ◌∷◌, ◌++◌, refl, sym, ap, ◌∙◌, codes, arith, eqb, leb, eqb-true, le-leb}
 use Rattle.std.specs.List.{flat_map, list_all}
 use Rattle.std.proofs.lemmas.Bool.{and_parts, and_from, or_left, false_from_ne_true}
 use Rattle.dm_value.specs.declared.value.Day.{Day}
@@ -9,7 +9,6 @@ use Rattle.dm_time.specs.Civil.{moment_in_utc}
 use Rattle.dm_time.specs.Written.{digits_of, day_text, time_text, fraction_text, moment_text, stamp_text}
 use Rattle.dm_schema.specs.Kinds.{is_between}
 use Rattle.dm_text.specs.Values.{escaped, in_quotes, string_text}
-use Rattle.dm_lex.specs.Lexemes.{is_digit}
 use Rattle.dm_reread.proofs.Follows.{all_both}
 
 -- a digit, a dash, a point, a colon or a blank

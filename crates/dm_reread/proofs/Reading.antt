@@ -1,9 +1,9 @@
 -- Each value's parts are read as the value.
-use Rattle.std.proofs.Common.{◌≡◌, ℕ, zero, suc, ◌+◌, ◌-◌, ◌*◌, ◌/◌, ◌%◌, ◌^◌, ◌<◌, ◌≤◌, ℤ, pos, negsuc, int_lt, unsigned_abs, Bool, true, false, not, cond, ◌&&◌, ◌||◌, ◌==◌, List, [], ◌∷◌, ◌++◌, length, codes, Option, Some, None, refl, sym, ap, ◌∙◌, subst, append-nil, arith, eqb, leb, ltb, nat_le, eqb-true, leb-true, ltb-true, le-leb, le-ltb, eq-eqb, take_all, get_or}
+use Rattle.std.proofs.Common.{◌≡◌, ℕ, suc, ◌+◌, ◌-◌, ◌*◌, ◌/◌, ◌%◌, ◌^◌, ◌<◌, ℤ, pos, negsuc, int_lt, unsigned_abs, Bool, true, false, not, cond, ◌&&◌, ◌==◌, List, [], ◌∷◌, ◌++◌, length, codes, Option, Some, None, refl, sym, ap, ◌∙◌, subst, append-nil, arith, eqb, leb, ltb, eqb-true, leb-true, ltb-true, le-leb, le-ltb, eq-eqb, take_all, get_or}
 use Rattle.std.specs.List.{flat_map, list_all, suffix_len}
 use Rattle.std.specs.Option.{option_map}
 use Rattle.std.specs.Fmt.{decimal}
-use Rattle.std.proofs.lemmas.Bool.{and_parts, not-true, agree_below, agree_below_at}
+use Rattle.std.proofs.lemmas.Bool.{and_parts, not-true, agree_below_at}
 use Rattle.std.proofs.lemmas.List.Sums.{suffix_len_is}
 use Rattle.dm_value.specs.declared.value.Value.{Value}
 use Rattle.dm_value.specs.declared.value.Value.TheVariants as value
@@ -13,20 +13,18 @@ use Rattle.dm_value.specs.declared.value.Moment.{Moment}
 use Rattle.dm_value.specs.declared.value.Stamp.{Stamp}
 use Rattle.dm_schema.specs.declared.column.Kind.{Kind}
 use Rattle.dm_schema.specs.declared.column.Kind.TheVariants as kind
-use Rattle.dm_schema.specs.Kinds.{is_kind, is_between}
+use Rattle.dm_schema.specs.Kinds.{is_kind}
 use Rattle.dm_schema.specs.Fits.{fits_kind, fits_by, fits_day, fits_text, ends_in_space}
-use Rattle.dm_time.specs.Texts.{has_shape, part, day_of, moment_of, stamp_of}
+use Rattle.dm_time.specs.Texts.{has_shape, part, day_of}
 use Rattle.dm_time.specs.Written.{day_text, moment_text, stamp_text}
 use Rattle.dm_time.proofs.Written.{moment_is_read}
 use Rattle.dm_time.proofs.Written.{number_is_read as part_is_read}
 use Rattle.dm_time.proofs.StampTexts.{stamp_text_is_read}
 use Rattle.dm_text.specs.Values.{in_quotes, string_text, hex_digit, hex_pair, places_text}
-use Rattle.dm_lex.specs.declared.token.TokenKind.{TokenKind}
 use Rattle.dm_lex.specs.declared.token.TokenKind.TheVariants as token
-use Rattle.dm_lex.specs.Lexemes.{is_hex_digit}
 use Rattle.dm_lex.specs.Literals.{string_of, hex_pairs, hex_of, with_sign, integer_of, decimal_of, without_blanks_at_end, padded, value_of_bytes, value_of_number, value_of_string, fitting, literal_of}
 use Rattle.dm_lex.specs.Literals.{hex_digit as hex_value}
-use Rattle.dm_reread.specs.Parts.{Part, Piece, signed_parts, integer_parts, decimal_digits, binary_part, value_parts, are_bytes, has_bytes}
+use Rattle.dm_reread.specs.Parts.{Piece, signed_parts, integer_parts, binary_part, value_parts, are_bytes, has_bytes}
 use Rattle.dm_reread.specs.Read.{IsRead, Null, Literal, Minus}
 use Rattle.dm_reread.proofs.Lexing.{pairs_are_digits}
 use Rattle.dm_reread.proofs.Plain.{is_plain, day_plain, moment_plain, stamp_plain, plain_string}

@@ -1,11 +1,10 @@
 -- What is written is spelled, before each text that may follow.
-use Rattle.std.proofs.Common.{◌≡◌, ℕ, zero, suc, ◌+◌, ◌-◌, ◌/◌, ◌%◌, ◌^◌, ◌≤◌, ℤ, pos, negsuc, int_lt, unsigned_abs, Bool, true, false, cond, ◌&&◌, ◌||◌, ◌==◌, List, [], ◌∷◌, ◌++◌, map, length, refl, sym, ap, ◌∙◌, subst, append-nil, append_assoc, codes, arith, eqb, leb, nat_lt, le-leb}
+use Rattle.std.proofs.Common.{◌≡◌, ℕ, suc, ◌/◌, ◌^◌, ◌≤◌, pos, negsuc, int_lt, unsigned_abs, Bool, true, false, cond, ◌==◌, List, [], ◌∷◌, ◌++◌, map, length, refl, sym, ap, ◌∙◌, subst, append-nil, append_assoc, codes, arith, eqb}
 use Rattle.std.specs.List.{flat_map, list_all}
-use Rattle.std.specs.Fmt.{decimal, digits, digits_onto, digit_glyph}
-use Rattle.std.proofs.lemmas.Bool.{and_parts, and_from, or_left, lt-ltb}
+use Rattle.std.specs.Fmt.{decimal, digits}
+use Rattle.std.proofs.lemmas.Bool.{and_parts, and_from}
 use Rattle.dm_value.specs.declared.value.Value.{Value}
 use Rattle.dm_value.specs.declared.value.Value.TheVariants as value
-use Rattle.dm_value.specs.declared.value.Dec.{Dec}
 use Rattle.dm_schema.specs.declared.column.Kind.{Kind}
 use Rattle.dm_schema.specs.declared.column.Kind.TheVariants as kind
 use Rattle.dm_schema.specs.declared.column.Column.{Column}
@@ -14,17 +13,16 @@ use Rattle.dm_schema.specs.declared.column.DefaultRule.{DefaultRule}
 use Rattle.dm_schema.specs.declared.column.DefaultRule.TheVariants as default
 use Rattle.dm_schema.specs.declared.table_name.TableName.{TableName}
 use Rattle.dm_schema.specs.Layout.{Layout}
-use Rattle.dm_schema.specs.Kinds.{is_between}
 use Rattle.dm_time.specs.Written.{digits_of, day_text, moment_text, stamp_text}
 use Rattle.dm_text.specs.Names.{quoted}
 use Rattle.dm_text.specs.Kinds.{integer_text, prefix_text, fraction_digits, is_binary}
 use Rattle.dm_text.specs.Values.{in_quotes, string_text, hex_pair, places_text}
 use Rattle.dm_lex.specs.declared.token.TokenKind.TheVariants as token
 use Rattle.dm_lex.specs.Lexemes.{is_digit, starts, lexeme_of}
-use Rattle.dm_reread.specs.Parts.{Part, Blank, Piece, text_of, is_piece, is_spelled_before, may_follow, word, mark, number, bracketed, behind_comma, comma_parts, name_part, name_item, name_list_parts, table_name_parts, signed_parts, decimal_digits, decimal_parts, text_part, bytes_part, binary_part, value_parts, all_value_parts, tuple_parts, are_bytes, has_bytes, default_has_bytes, sized, fraction_parts, kind_parts, nullable_parts, default_parts, column_parts, column_item, primary_parts, unique_item, layout_parts, create_parts}
+use Rattle.dm_reread.specs.Parts.{Part, Blank, Piece, text_of, is_piece, is_spelled_before, may_follow, word, mark, number, bracketed, behind_comma, comma_parts, name_part, name_item, name_list_parts, table_name_parts, signed_parts, text_part, bytes_part, value_parts, all_value_parts, tuple_parts, are_bytes, has_bytes, default_has_bytes, fraction_parts, kind_parts, nullable_parts, default_parts, column_parts, column_item, primary_parts, unique_item, layout_parts, create_parts}
 use Rattle.dm_reread.proofs.Composing.{both_are_spelled}
-use Rattle.dm_reread.proofs.Follows.{Ends, ends, all_both}
-use Rattle.dm_reread.proofs.Lexing.{one_is_spelled, name_is_piece, string_is_piece, excludes, digit_below, number_is_piece, fraction_is_piece, is_capital_word, word_is_piece, word_is_spelled, pairs_are_digits, hex_is_piece}
+use Rattle.dm_reread.proofs.Follows.{ends}
+use Rattle.dm_reread.proofs.Lexing.{one_is_spelled, name_is_piece, string_is_piece, excludes, digit_below, number_is_piece, fraction_is_piece, is_capital_word, word_is_spelled, pairs_are_digits, hex_is_piece}
 use Rattle.dm_reread.proofs.Plain.{day_plain, moment_plain, stamp_plain, plain_string}
 use Rattle.dm_reread.proofs.Digits.{decimal_is_digits, decimal_some, digits_are_digits}
 
@@ -245,9 +243,9 @@ pub column_is_spelled : (c : Column) (behind : List ℕ) → default_has_bytes c
 column_is_spelled c behind bytes follows =
     let rest : List Part = nullable_parts c.nullable ++ default_parts c.kind c.default_rule in
     let ending : is_spelled_before behind rest ≡ true =
-        both_are_spelled (nullable_parts c.nullable) (default_parts c.kind c.default_rule) behind
-        (nullable_is_spelled c.nullable (text_of (default_parts c.kind c.default_rule) ++ behind) (default_follows c.kind c.default_rule behind follows))
-        (default_is_spelled c.kind c.default_rule behind (constant_has_bytes c bytes) follows) in
+    both_are_spelled (nullable_parts c.nullable) (default_parts c.kind c.default_rule) behind
+    (nullable_is_spelled c.nullable (text_of (default_parts c.kind c.default_rule) ++ behind) (default_follows c.kind c.default_rule behind follows))
+    (default_is_spelled c.kind c.default_rule behind (constant_has_bytes c bytes) follows) in
     name_before c.name (Blank 32 ∷ (kind_parts c.kind ++ rest)) behind refl
     (both_are_spelled (kind_parts c.kind) rest behind (kind_is_spelled c.kind (text_of rest ++ behind) (nullable_follows c.nullable (default_parts c.kind c.default_rule) behind)) ending)
 

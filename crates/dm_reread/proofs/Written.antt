@@ -1,5 +1,5 @@
 -- The text of parts is what is written.
-use Rattle.std.proofs.Common.{◌≡◌, ℕ, suc, ℤ, pos, negsuc, Bool, true, false, cond, ◌==◌, List, [], ◌∷◌, ◌++◌, map, refl, sym, ap, ◌∙◌, append_assoc, append-nil, codes, int_lt, unsigned_abs, ◌/◌, ◌^◌}
+use Rattle.std.proofs.Common.{◌≡◌, ℕ, suc, pos, negsuc, Bool, true, false, cond, ◌==◌, List, [], ◌∷◌, ◌++◌, map, refl, sym, ap, ◌∙◌, append_assoc, append-nil, codes, int_lt, unsigned_abs, ◌/◌, ◌^◌}
 use Rattle.std.specs.List.{flat_map}
 use Rattle.std.specs.Fmt.{decimal}
 use Rattle.dm_value.specs.declared.value.Value.{Value}
@@ -18,12 +18,10 @@ use Rattle.dm_text.specs.Names.{quoted, with_commas, name_list, table_name_text}
 use Rattle.dm_text.specs.Kinds.{kind_text, integer_text, prefix_text, fraction_text, fraction_digits, is_binary}
 use Rattle.dm_text.specs.Values.{in_quotes, string_text, binary_text, bytes_text, places_text, value_text, value_texts, tuple_text}
 use Rattle.dm_text.specs.Columns.{nullable_text, default_text, column_text, column_part, primary_part, unique_part, parts_text, create_text}
-use Rattle.dm_lex.specs.declared.token.TokenKind.TheVariants as token
-use Rattle.dm_reread.specs.Parts.{Part, Blank, Piece, text_of, word, mark, number, bracketed, behind_comma, comma_parts, name_part, name_item, name_list_parts, table_name_parts, signed_parts, decimal_digits, bytes_part, binary_part, value_parts, all_value_parts, tuple_parts, sized, fraction_parts, kind_parts, nullable_parts, default_parts, column_parts, column_item, primary_parts, unique_item, layout_parts, create_parts}
+use Rattle.dm_reread.specs.Parts.{Part, Blank, text_of, mark, number, bracketed, behind_comma, comma_parts, name_item, name_list_parts, table_name_parts, signed_parts, decimal_digits, bytes_part, value_parts, all_value_parts, tuple_parts, fraction_parts, kind_parts, nullable_parts, default_parts, column_parts, column_item, primary_parts, unique_item, layout_parts, create_parts}
 use Rattle.dm_reread.proofs.Composing.{text_of_both}
 
 -- Lists of parts.
-
 
 pub all_written : {A : Type 0} (f : A → List Part) (g : A → List ℕ) → ((x : A) → text_of (f x) ≡ g x) → (xs : List A) → text_of (flat_map f xs) ≡ flat_map g xs
 all_written f g each [] = refl
