@@ -3,7 +3,7 @@ ghost use Rattle.std.specs.List.{list_all};
 ghost use Rattle.dm_reread.specs.Parts.{are_bytes, has_bytes, default_has_bytes};
 
 use dm_schema::{Column, DefaultRule};
-use dm_value::Value;
+use dm_value::{Row, Value};
 
 /// Says of a slice what its type does.
 fn slice_bytes(bytes: &[u8])
@@ -27,6 +27,15 @@ pub fn row_bytes(row: &[Value])
 {
     for value in row {
         value_bytes(value);
+    }
+}
+
+/// Says so of each value of each row.
+pub fn rows_bytes(rows: &[Row])
+    ensures { IsTrue (list_all (λ row. list_all has_bytes row) rows.now) }
+{
+    for row in rows {
+        row_bytes(row.as_slice());
     }
 }
 
