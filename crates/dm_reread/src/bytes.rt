@@ -5,14 +5,12 @@ ghost use Rattle.dm_reread.specs.Parts.{are_bytes, has_bytes, default_has_bytes}
 use dm_schema::{Column, DefaultRule};
 use dm_value::{Row, Value};
 
-/// Says of a slice what its type does.
+/// Says of a slice what its type does: its bytes are below 256.
 fn slice_bytes(bytes: &[u8])
     ensures { IsTrue (are_bytes bytes.now) }
-{
-    let _count = bytes.len();
-}
+{}
 
-/// Says that the bytes of a value have 8 bits, which laws of written texts ask for.
+/// Says that the bytes of a value are below 256, which the laws of written texts ask for.
 pub fn value_bytes(value: &Value)
     ensures { IsTrue (has_bytes value.now) }
 {
