@@ -18,7 +18,7 @@ use Rattle.dm_syntax.specs.declared.terminal.TheConstants as terminal
 use Rattle.dm_syntax.specs.Classes.{in_class}
 use Rattle.dm_syntax.specs.Productions.{begins_table, create_table_statement, alter_table_statement, other_statement, create_table_start, alter_table_start, other_start}
 use Rattle.dm_syntax.specs.Pieces.{pieces_of}
-use Rattle.dm_syntax.specs.Parsing.{lexical, grammar_of, kinds_of, placed, HasPieces, SaysLexed, Says}
+use Rattle.dm_syntax.specs.Parsing.{lexical, grammar_of, kinds_of, placed, SaysLexed, Says}
 use Rattle.dm_syntax.proofs.Ready.{create_table_statement_ready, alter_table_statement_ready, other_statement_ready, create_table_start_ready, alter_table_start_ready, other_start_ready}
 use Rattle.dm_syntax.proofs.Terminals.{kinds_small}
 
