@@ -1,10 +1,10 @@
 ghost use Rattle.std.specs.Prelude.{◌≡◌, ◌<◌, ◌^◌, length, IfOk, IfErr, Some};
 ghost use Rattle.dm_dump.specs.declared.fault.DumpFault.TheVariants.{Memory};
-ghost use Rattle.dm_dump.specs.Dumps.{OrMemory, bytes_in, lower, precedes, early_insert, without_create, is_lex, tears, create_fault, without_schema, created_or_memory, SaysCreate, dump_of, HasTable, DumpBy, DumpWith, IsDump};
+ghost use Rattle.dm_dump.specs.Dumps.{OrMemory, bytes_in, lower, precedes, early_insert, without_create, tears, create_fault, without_schema, created_or_memory, SaysCreate, dump_of, HasTable, DumpBy, DumpWith, IsDump};
 
 use crate::fault::{DumpCause, DumpFault, Fault};
 use crate::inserts::Inserts;
-use crate::outline::{Outline, Span, read_outline};
+use crate::outline::{Outline, Span, is_lex, read_outline};
 use crate::reading_rows::{read_rows, refused};
 use dm_ddl::{Named, Statement, read_statement};
 use dm_schema::Schema;
@@ -84,22 +84,6 @@ fn without_create(text: &[u8], outline: &Outline) -> Fault
         cause: DumpCause::NoCreate,
     };
     lower(outline.fault, lower(early_insert(outline), none))
-}
-
-fn is_lex(cause: DumpCause) -> bool
-    ensures { result ≡ is_lex cause }
-{
-    match cause {
-        DumpCause::Lex => true,
-        DumpCause::Statement
-        | DumpCause::SecondCreate
-        | DumpCause::Table
-        | DumpCause::Columns
-        | DumpCause::Count
-        | DumpCause::Unfit
-        | DumpCause::NoCreate
-        | DumpCause::Create => false,
-    }
 }
 
 /// Whether a fault is a lexical one in the span.
