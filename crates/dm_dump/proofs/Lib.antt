@@ -2,6 +2,7 @@ pub mod Ready
 pub mod Small
 pub mod Columns
 pub mod Stream
+pub mod Uniqueness
 pub mod UnitLemmas
 pub mod OutlineLemmas
 pub mod DumpLemmas
