@@ -6,4 +6,6 @@ pub mod Uniqueness
 pub mod UnitLemmas
 pub mod OutlineLemmas
 pub mod DumpLemmas
+pub mod Leading
 pub mod Laws
+pub mod OrderLaws
