@@ -1,18 +1,23 @@
 -- A file whose events are read in turn.
-use Rattle.std.proofs.Common.{◌≡◌, ℕ, Bool, true, false, List, [], ◌∷◌, ◌++◌, Option, Some, None, length, take, drop, get_or, ◌+◌, ◌<◌, ◌≤◌, ◌^◌, if◌then◌else◌, refl, sym, ap, ◌∙◌, subst, arith}
+use Rattle.std.proofs.Common.{◌≡◌, ℕ, Bool, true, false, List, [], ◌∷◌, ◌++◌, Option, Some, None, length, take, drop, get_or, ◌+◌, ◌<◌, ◌≤◌, ◌^◌, zero, suc, eqb, ◌⊎◌, inl, inr, if◌then◌else◌, refl, sym, ap, ◌∙◌, subst, arith}
 use Rattle.std.specs.Prelude.{reverse, IfSome}
 use Rattle.std.specs.List.{find}
 use Rattle.std.specs.BTreeMap.{BTreeMap}
 use Rattle.std.proofs.lemmas.List.{reverse-append, take_more, drop_more, drop_all}
 use Rattle.std.proofs.lemmas.Option.{slice_get_read}
+use Rattle.std.proofs.lemmas.Bool.Decides.{eqb_tells}
 use Rattle.dm_binlog.specs.declared.event.Event.{Event}
 use Rattle.dm_binlog.specs.declared.event.Fault.{Fault}
 use Rattle.dm_binlog.specs.Order.{AreInOrder}
 use Rattle.dm_binlog.proofs.Laws.{each_within}
-use Rattle.dm_stream.specs.Sayings.{Heads, maps, last_map, said_of}
+use Rattle.std.specs.Option.{is_some}
+use Rattle.dm_stream.specs.declared.event.LogFile as program_file
+use Rattle.dm_stream.specs.declared.event.Said as program_said
+use Rattle.dm_stream.specs.Views.{seen_file, seen_said}
+use Rattle.dm_stream.specs.Sayings.{Heads, Said, maps, last_map, said_of}
 use Rattle.dm_stream.specs.Logs.{LogFile, Logged}
 use Rattle.dm_stream.specs.TableMaps.{map_at, AreLast, AreSame, AreWithin, IsKept, IsWithin, Notes}
-use Rattle.dm_stream.specs.Rests.{FileRest, moved, next_of}
+use Rattle.dm_stream.specs.Rests.{FileRest, is_empty, is_passed, moved, next_of}
 
 last_behind : (file : List ℕ) (before : List Event) (e : Event) (id : ℕ) → last_map file id (before ++ e ∷ []) ≡ (if maps file id e then Some e else last_map file id before)
 last_behind file before e id = ap (find (maps file id)) (reverse-append before (e ∷ []))
@@ -78,3 +83,29 @@ moves_none file events place fault past = rw (drop_all place events past) refl
 
 pub next_none : (heads : Heads) (file : LogFile) (events : List Event) (place : ℕ) (fault : Option Fault) → length events ≤ place → None ≡ next_of heads (at_place file events place fault)
 next_none heads file events place fault past = rw (drop_all place events past) refl
+
+-- What the program says of the next event is what the definition does.
+pub next_seen : (heads : Heads) (file : program_file.LogFile) (events : List Event) (place : ℕ) (fault : Option Fault) (e : Event) (said : program_said.Said) (now : FileRest) → place < length events → e ≡ get_or events place e
+    → at_place (seen_file file) events place fault ≡ now → seen_said said ≡ said_of heads file.bytes.now (take place events) e
+    → Some (record { file = seen_file file; event = e; said = seen_said said }) ≡ next_of heads now
+next_seen heads file events place fault e said now there here view says =
+    ap (λ (s : Said). let next : Option Logged = Some (record { file = seen_file file; event = e; said = s }) in next) says
+    ∙ next_here heads (seen_file file) events place fault e there here
+    ∙ ap (next_of heads) view
+
+some_behind : (events : List Event) (place : ℕ) → place < length events → is_empty (drop place events) ≡ false
+some_behind [] place h = absurd (omega arith)
+some_behind (e ∷ es) zero h = refl
+some_behind (e ∷ es) (suc n) h = some_behind es n (omega arith)
+
+empty_behind : (events : List Event) (place : ℕ) → place ≤ length events → eqb place (length events) ≡ is_empty (drop place events)
+empty_behind events place within = by (eqb_tells place (length events)) where
+  by : ((eqb place (length events) ≡ true) × (place ≡ length events)) ⊎ ((eqb place (length events) ≡ false) × (place ≡ length events → ⊥)) → eqb place (length events) ≡ is_empty (drop place events)
+  by (inl same) = let all : length events ≤ place = omega (arith, same.1) in same.0 ∙ ap (λ (es : List Event). is_empty es) (sym (drop_all place events all))
+  by (inr other) = let there : place < length events = omega (arith, other.1) in other.0 ∙ sym (some_behind events place there)
+
+pub passes : (file : LogFile) (events : List Event) (place end : ℕ) (fault : Option Fault) (now : FileRest) → place ≤ length events → end ≡ length events → is_some fault ≡ false → at_place file events place fault ≡ now → eqb place end ≡ is_passed now
+passes file events place end fault now within all none view = ap (eqb place) all ∙ empty_behind events place within ∙ by fault none ∙ ap is_passed view where
+  by : (f : Option Fault) → is_some f ≡ false → is_empty (drop place events) ≡ is_passed (at_place file events place f)
+  by None e = refl
+  by (Some f) e = absurd cc

@@ -2,7 +2,8 @@ ghost use Rattle.std.specs.Prelude.{◌≡◌, ◌<◌, ◌^◌, IfOk, OnErr, Ok
 ghost use Rattle.dm_binlog.specs.declared.event.Event.{Event};
 ghost use Rattle.dm_binlog.specs.declared.event.TheConstants.{TABLE_MAP};
 ghost use Rattle.dm_binlog.specs.Bodies.{query_of, rows_head_of, table_map_of};
-ghost use Rattle.dm_stream.specs.Sayings.{Heads, body_of, head_said, map_said, query_said, rows_by, rows_said, said_of};
+ghost use Rattle.dm_syntax.specs.Parsing.{is_memory};
+ghost use Rattle.dm_stream.specs.Sayings.{Heads, body_of, head_said, is_rows, map_said, query_said, rows_by, rows_said, said_of};
 ghost use Rattle.dm_stream.specs.Logs.{AreHeads};
 ghost use Rattle.dm_stream.specs.Views.{seen_said};
 ghost use Rattle.dm_stream.specs.TableMaps.{map_at, AreLast, AreSame, AreWithin, IsWithin, Notes};
@@ -44,6 +45,12 @@ fn statement_said<'a>(head: Head, query: Query<'a>) -> Said<'a>
     }
 }
 
+fn is_memory(fault: DdlFault) -> bool
+    ensures { result ≡ is_memory fault }
+{
+    matches!(fault, DdlFault::Memory)
+}
+
 fn head_said<'a>(alloc: Global, query: Query<'a>) -> Result<Said<'a>, AllocError>
     requires { length query.statement.now < 2 ^ 32 }
     ensures { (heads : Heads) → AreHeads heads → IfOk result (λ said. seen_said said
@@ -51,7 +58,7 @@ fn head_said<'a>(alloc: Global, query: Query<'a>) -> Result<Said<'a>, AllocError
 {
     match read_head(alloc, query.statement) {
         Ok(head) => Ok(statement_said(head, query)),
-        Err(DdlFault::Memory) => Err(AllocError),
+        Err(fault) if is_memory(fault) => Err(AllocError),
         Err(fault) => Ok(Said::Ends(BadCause::from(fault))),
     }
 }
@@ -129,6 +136,15 @@ fn rows_said<'a>(
     }
 }
 
+fn is_rows(kind: u8) -> bool
+    ensures { result ≡ is_rows kind }
+{
+    matches!(
+        kind,
+        WRITE_ROWS_V1 | UPDATE_ROWS_V1 | DELETE_ROWS_V1 | WRITE_ROWS | UPDATE_ROWS | DELETE_ROWS
+    )
+}
+
 /// What an event says, before which the table maps are the last of their table ids.
 pub fn said_of<'a>(
     alloc: Global,
@@ -147,10 +163,9 @@ pub fn said_of<'a>(
     match event.kind {
         QUERY => query_said(alloc, body_of(file, event)),
         TABLE_MAP => map_said(alloc, table_maps, file, event),
-        WRITE_ROWS_V1 | UPDATE_ROWS_V1 | DELETE_ROWS_V1 | WRITE_ROWS | UPDATE_ROWS
-        | DELETE_ROWS => rows_said(alloc, table_maps, file, event),
         PARTIAL_UPDATE_ROWS => Ok(Said::Ends(BadCause::PartialUpdate)),
         TRANSACTION_PAYLOAD => Ok(Said::Ends(BadCause::Payload)),
+        kind if is_rows(kind) => rows_said(alloc, table_maps, file, event),
         _ => Ok(Said::Nothing),
     }
 }
