@@ -1,6 +1,6 @@
 -- A file whose events are read in turn.
-use Rattle.std.proofs.Common.{◌≡◌, ℕ, Bool, true, false, List, [], ◌∷◌, ◌++◌, Option, Some, None, length, take, drop, get_or, ◌+◌, ◌<◌, ◌≤◌, ◌^◌, zero, suc, eqb, ◌⊎◌, inl, inr, if◌then◌else◌, refl, sym, ap, ◌∙◌, subst, arith}
-use Rattle.std.specs.Prelude.{reverse, IfSome}
+use Rattle.std.proofs.Common.{◌≡◌, ℕ, Bool, true, false, List, [], ◌∷◌, ◌++◌, Option, Some, None, length, take, drop, get_or, ◌+◌, ◌<◌, ◌≤◌, zero, suc, eqb, ◌⊎◌, inl, inr, if◌then◌else◌, refl, sym, ap, ◌∙◌, subst, arith}
+use Rattle.std.specs.Prelude.{IfSome}
 use Rattle.std.specs.List.{find}
 use Rattle.std.specs.BTreeMap.{BTreeMap}
 use Rattle.std.proofs.lemmas.List.{reverse-append, take_more, drop_more, drop_all}
@@ -8,7 +8,6 @@ use Rattle.std.proofs.lemmas.Option.{slice_get_read}
 use Rattle.std.proofs.lemmas.Bool.Decides.{eqb_tells}
 use Rattle.dm_binlog.specs.declared.event.Event.{Event}
 use Rattle.dm_binlog.specs.declared.event.Fault.{Fault}
-use Rattle.dm_binlog.specs.Order.{AreInOrder}
 use Rattle.dm_binlog.proofs.Laws.{each_within}
 use Rattle.std.specs.Option.{is_some}
 use Rattle.dm_stream.specs.declared.event.LogFile as program_file
@@ -16,8 +15,8 @@ use Rattle.dm_stream.specs.declared.event.Said as program_said
 use Rattle.dm_stream.specs.Views.{seen_file, seen_said}
 use Rattle.dm_stream.specs.Sayings.{Heads, Said, maps, last_map, said_of}
 use Rattle.dm_stream.specs.Logs.{LogFile, Logged}
-use Rattle.dm_stream.specs.TableMaps.{map_at, AreLast, AreSame, AreWithin, IsKept, IsWithin, Notes}
-use Rattle.dm_stream.specs.Rests.{FileRest, is_empty, is_passed, moved, next_of}
+use Rattle.dm_stream.specs.TableMaps.{map_at, IsKept, IsWithin, Notes}
+use Rattle.dm_stream.specs.Rests.{FileRest, is_empty, is_passed, next_of}
 
 last_behind : (file : List ℕ) (before : List Event) (e : Event) (id : ℕ) → last_map file id (before ++ e ∷ []) ≡ (if maps file id e then Some e else last_map file id before)
 last_behind file before e id = ap (find (maps file id)) (reverse-append before (e ∷ []))
@@ -36,53 +35,23 @@ kept_next file events place old new e kept there here notes = record {
   in_order = kept.in_order;
   placed = omega arith;
   last = λ id.
-  notes id ∙ ap (λ (o : Option Event). if maps file id e then Some e else o) (kept.last id)
-  ∙ sym (last_behind file (take place events) e id) ∙ ap (last_map file id) (sym (more_before events place e there here));
+      notes id ∙ ap (λ (o : Option Event). if maps file id e then Some e else o) (kept.last id)
+      ∙ sym (last_behind file (take place events) e id) ∙ ap (last_map file id) (sym (more_before events place e there here));
   within = λ id. subst (λ (o : Option Event). IfSome o (IsWithin (length file))) (sym (notes id)) (by id (maps file id e));
 } where
   by : (id : ℕ) (b : Bool) → IfSome (if b then Some e else map_at old id) (IsWithin (length file))
   by id true = event_within file events place old e kept there here
   by id false = kept.within id
 
-pub kept_same : (file : List ℕ) (events : List Event) (place : ℕ) (old new : BTreeMap ℕ Event) → IsKept file events place old → AreSame old new → IsKept file events place new
-kept_same file events place old new kept same = record {
-  short = kept.short;
-  in_order = kept.in_order;
-  placed = kept.placed;
-  last = λ id. same id ∙ kept.last id;
-  within = λ id. subst (λ (o : Option Event). IfSome o (IsWithin (length file))) (sym (same id)) (kept.within id);
-}
-
-no_map : (table_maps : BTreeMap ℕ Event) → table_maps.entries ≡ [] → (id : ℕ) → map_at table_maps id ≡ None
-no_map table_maps e id = rw e refl
-
-pub kept_first : (file : List ℕ) (events : List Event) (table_maps : BTreeMap ℕ Event) → length file < 2 ^ 32 → AreInOrder 0 events (length file) → table_maps.entries ≡ [] → IsKept file events 0 table_maps
-kept_first file events table_maps short order none = record {
-  short = short;
-  in_order = order;
-  placed = omega arith;
-  last = no_map table_maps none;
-  within = λ id. subst (λ (o : Option Event). IfSome o (IsWithin (length file))) (sym (no_map table_maps none id)) tt;
-}
-
-abbrev pub at_place : LogFile → List Event → ℕ → Option Fault → FileRest
+abbrev at_place : LogFile → List Event → ℕ → Option Fault → FileRest
 at_place file events place fault = record { file = file; before = take place events; behind = drop place events; fault = fault }
 
 behind_is : (events : List Event) (place : ℕ) (e : Event) → place < length events → e ≡ get_or events place e → drop place events ≡ e ∷ drop (place + 1) events
 behind_is events place e there here = drop_more events place e there ∙ ap (λ (x : Event). x ∷ drop (place + 1) events) (sym here)
 
-pub moves_next : (file : LogFile) (events : List Event) (place : ℕ) (fault : Option Fault) (e : Event) → place < length events → e ≡ get_or events place e → at_place file events (place + 1) fault ≡ moved (at_place file events place fault)
-moves_next file events place fault e there here = rw (more_before events place e there here, behind_is events place e there here) refl
-
-pub next_here : (heads : Heads) (file : LogFile) (events : List Event) (place : ℕ) (fault : Option Fault) (e : Event) → place < length events → e ≡ get_or events place e
+next_here : (heads : Heads) (file : LogFile) (events : List Event) (place : ℕ) (fault : Option Fault) (e : Event) → place < length events → e ≡ get_or events place e
     → Some (record { file = file; event = e; said = said_of heads file.bytes (take place events) e }) ≡ next_of heads (at_place file events place fault)
 next_here heads file events place fault e there here = rw (behind_is events place e there here) refl
-
-pub moves_none : (file : LogFile) (events : List Event) (place : ℕ) (fault : Option Fault) → length events ≤ place → at_place file events place fault ≡ moved (at_place file events place fault)
-moves_none file events place fault past = rw (drop_all place events past) refl
-
-pub next_none : (heads : Heads) (file : LogFile) (events : List Event) (place : ℕ) (fault : Option Fault) → length events ≤ place → None ≡ next_of heads (at_place file events place fault)
-next_none heads file events place fault past = rw (drop_all place events past) refl
 
 -- What the program says of the next event is what the definition does.
 pub next_seen : (heads : Heads) (file : program_file.LogFile) (events : List Event) (place : ℕ) (fault : Option Fault) (e : Event) (said : program_said.Said) (now : FileRest) → place < length events → e ≡ get_or events place e

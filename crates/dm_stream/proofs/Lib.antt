@@ -1,5 +1,4 @@
 pub mod Heads
-pub mod QueryLemmas
 pub mod FileLemmas
 pub mod LogLemmas
 pub mod SaidLemmas

@@ -1,12 +1,11 @@
 -- What is left of a log.
-use Rattle.std.proofs.Common.{take, drop, get_or, ◌-◌, ◌≡◌, ℕ, Bool, true, false, List, [], ◌∷◌, ◌++◌, Option, Some, None, length, ◌+◌, ◌<◌, ◌≤◌, refl, sym, ap, ◌∙◌, eqb, ◌⊎◌, inl, inr, arith}
+use Rattle.std.proofs.Common.{take, drop, get_or, ◌-◌, ◌≡◌, ℕ, Bool, true, false, List, [], ◌∷◌, Option, Some, None, length, ◌<◌, ◌≤◌, refl, sym, ap, ◌∙◌, eqb, ◌⊎◌, inl, inr, arith}
 use Rattle.std.specs.Prelude.{IsTrue}
-use Rattle.std.specs.Option.{option_map, is_some}
+use Rattle.std.specs.Option.{option_map}
 use Rattle.dm_binlog.specs.declared.event.Event.{Event}
 use Rattle.dm_binlog.specs.declared.event.Events.{Events}
 use Rattle.dm_binlog.specs.declared.event.Fault.{Fault}
 use Rattle.dm_binlog.specs.Framing.{events_of}
-use Rattle.dm_stream.specs.declared.event.LogFault.{LogFault}
 use Rattle.std.specs.Prelude.{map, Result, Ok, Err, IfOk, IfSome, IfNone}
 use Rattle.std.specs.declared.alloc.AllocError.{AllocError}
 use Rattle.std.proofs.lemmas.Bool.Decides.{eqb_tells}
@@ -15,8 +14,8 @@ use Rattle.dm_stream.specs.declared.event.LogFile as program_file
 use Rattle.dm_stream.specs.declared.event.Logged as program_logged
 use Rattle.dm_stream.specs.Views.{seen, seen_file}
 use Rattle.dm_stream.specs.Sayings.{Heads}
-use Rattle.dm_stream.specs.Logs.{LogFile, Logged, Log, is_last, log_fault, log_of, logged, with_file}
-use Rattle.dm_stream.specs.Rests.{FileRest, Rest, IsNext, events_left, is_behind, is_empty, is_passed, is_ready, left, moved, next_of, no_heads, opened, with_rest}
+use Rattle.dm_stream.specs.Logs.{LogFile, Logged, Log, is_last, log_fault, log_of, with_file}
+use Rattle.dm_stream.specs.Rests.{FileRest, Rest, IsNext, events_left, is_behind, is_passed, is_ready, left, moved, next_of, no_heads, opened, with_rest}
 
 -- an opened file says what the definition says of it
 opened_says : (heads : Heads) (file : LogFile) (events : Events) (behind : Log) → with_rest heads (opened file events) behind ≡ with_file heads file events behind

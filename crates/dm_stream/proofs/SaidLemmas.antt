@@ -1,12 +1,12 @@
 -- What an event says, by its kind.
-use Rattle.std.proofs.Common.{◌≡◌, ◌==◌, ℕ, Bool, true, false, List, Option, Some, None, Result, Ok, Err, refl, sym, ap, ◌∙◌}
+use Rattle.std.proofs.Common.{◌≡◌, ◌==◌, ℕ, Bool, true, false, List, Result, Err, refl, sym, ap, ◌∙◌}
 use Rattle.std.specs.Prelude.{IfOk, ⊤}
 use Rattle.std.specs.declared.alloc.AllocError.{AllocError}
 use Rattle.std.proofs.lemmas.Bool.{false≢true, eqb-true}
 use Rattle.std.proofs.lemmas.Result.{IfOk-weaker}
 use Rattle.dm_binlog.specs.declared.event.Event.{Event}
 use Rattle.dm_binlog.specs.declared.event.TheConstants.{QUERY, TABLE_MAP}
-use Rattle.dm_binlog.specs.Bodies.{QueryText, query_of, rows_head_of}
+use Rattle.dm_binlog.specs.Bodies.{query_of, rows_head_of}
 use Rattle.dm_syntax.specs.declared.fault.DdlFault.{DdlFault}
 use Rattle.dm_syntax.specs.Parsing.{OrMemory, is_memory}
 use Rattle.dm_stream.specs.declared.event.Said as program_said

@@ -1,11 +1,10 @@
 -- What is left of a log that is read event by event.
-use Rattle.std.specs.Prelude.{◌≡◌, ℕ, Bool, true, false, not, List, [], ◌∷◌, ◌++◌, length, Option, Some, None, Err, IsTrue, All, ◌<◌, ◌^◌}
-use Rattle.std.specs.Option.{option_map, is_some}
+use Rattle.std.specs.Prelude.{◌≡◌, ℕ, Bool, true, false, List, [], ◌∷◌, ◌++◌, length, Option, Some, None, Err}
+use Rattle.std.specs.Option.{is_some}
 use Rattle.dm_syntax.specs.declared.fault.DdlFault.TheVariants as ddl
 use Rattle.dm_binlog.specs.declared.event.Event.{Event}
 use Rattle.dm_binlog.specs.declared.event.Events.{Events}
 use Rattle.dm_binlog.specs.declared.event.Fault.{Fault}
-use Rattle.dm_stream.specs.declared.event.LogFault.{LogFault}
 use Rattle.dm_stream.specs.Sayings.{Heads, said_of}
 use Rattle.dm_stream.specs.Logs.{LogFile, Logged, Log, logged, log_fault, log_of}
 
@@ -87,7 +86,3 @@ is_behind rest = by (is_empty rest.front.behind) where
 abbrev pub IsNext : Log → Option Logged → Log → Type 0
 IsNext before None after = (before.events ≡ []) × (after.events ≡ [])
 IsNext before (Some e) after = before.events ≡ e ∷ after.events
-
-abbrev pub AreShort : List LogFile → Type 0
-AreShort [] = Unit {0}
-AreShort (f ∷ fs) = (length f.bytes < 2 ^ 32) × AreShort fs

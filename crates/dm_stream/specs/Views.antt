@@ -1,4 +1,5 @@
 -- What the program says of events, as the definitions have it.
+use Rattle.std.specs.Prelude.{◌<◌, ◌^◌, length}
 use Rattle.dm_stream.specs.declared.event.LogFile as program_file
 use Rattle.dm_stream.specs.declared.event.Said as program_said
 use Rattle.dm_stream.specs.declared.event.Said.TheVariants as program
@@ -8,6 +9,10 @@ use Rattle.dm_stream.specs.Logs.{LogFile, Logged}
 
 abbrev pub seen_file : program_file.LogFile → LogFile
 seen_file file = record { number = file.number; bytes = file.bytes.now }
+
+-- places in the file are numbers of 32 bits
+abbrev pub IsShort : program_file.LogFile → Type 0
+IsShort file = length file.bytes.now < 2 ^ 32
 
 abbrev pub seen_said : program_said.Said → Said
 seen_said program.Nothing = Nothing

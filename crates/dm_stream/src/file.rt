@@ -1,9 +1,9 @@
-ghost use Rattle.std.specs.Prelude.{◌≡◌, ◌<◌, ◌^◌, [], None, IfOk, length};
+ghost use Rattle.std.specs.Prelude.{◌≡◌, [], None, IfOk};
 ghost use Rattle.std.specs.Option.{option_map};
 ghost use Rattle.dm_binlog.specs.Framing.{events_of, no_events};
 ghost use Rattle.dm_stream.specs.Sayings.{Heads};
 ghost use Rattle.dm_stream.specs.Logs.{AreHeads, log_fault};
-ghost use Rattle.dm_stream.specs.Views.{seen, seen_file};
+ghost use Rattle.dm_stream.specs.Views.{seen, seen_file, IsShort};
 ghost use Rattle.dm_stream.specs.Rests.{opened, moved, next_of, is_passed};
 
 use crate::said::said_of;
@@ -34,10 +34,10 @@ impl<'a> Model for OpenFile<'a> {
     ghost Value = { FileRest };
 
     ghost view = { λ open_file. record {
-        file = seen_file open_file.file;
-        before = take open_file.place open_file.events.items;
-        behind = drop open_file.place open_file.events.items;
-        fault = open_file.fault;
+      file = seen_file open_file.file;
+      before = take open_file.place open_file.events.items;
+      behind = drop open_file.place open_file.events.items;
+      fault = open_file.fault;
     } };
 
     ghost invariant = { λ open_file. IsKept open_file.file.bytes.now open_file.events.items open_file.place open_file.table_maps };
@@ -61,24 +61,28 @@ impl<'a> OpenFile<'a> {
         }
     }
 
-    pub fn open(
+    /// Goes on at a file's first event. Where memory is wanting nothing changes.
+    pub fn go_on(
+        &mut self,
         alloc: Global,
         file: LogFile<'a>,
         start: u32,
         last: bool,
-    ) -> Result<OpenFile<'a>, AllocError>
-        requires { length file.bytes.now < 2 ^ 32 }
-        ensures { IfOk result (λ made. made ≡ opened (seen_file file.entry) (events_of file.entry.bytes.now start last)) }
+    ) -> Result<(), AllocError>
+        requires { IsShort file }
+        ensures { IfOk result (λ _. self.new ≡ opened (seen_file file.entry) (events_of file.entry.bytes.now start last)) }
     {
         match read_events(alloc, file.bytes, start, last) {
             Err(BinlogFault::Memory) => Err(AllocError),
-            Ok(events) => Ok(OpenFile {
-                file,
-                events: events.list.into_vec(),
-                place: 0,
-                table_maps: BTreeMap::new(alloc),
-                fault: events.fault,
-            }),
+            Ok(events) => {
+                self.file = file;
+                self.events = events.list.into_vec();
+                self.place = 0;
+                // A table id stands for its table up to the file's end.
+                self.table_maps.clear();
+                self.fault = events.fault;
+                Ok(())
+            }
         }
     }
 

@@ -6,7 +6,7 @@ ghost use Rattle.dm_syntax.specs.Parsing.{is_memory};
 ghost use Rattle.dm_stream.specs.Sayings.{Heads, body_of, head_said, is_rows, map_said, query_said, rows_by, rows_said, said_of};
 ghost use Rattle.dm_stream.specs.Logs.{AreHeads};
 ghost use Rattle.dm_stream.specs.Views.{seen_said};
-ghost use Rattle.dm_stream.specs.TableMaps.{map_at, AreLast, AreSame, AreWithin, IsWithin, Notes};
+ghost use Rattle.dm_stream.specs.TableMaps.{AreLast, AreSame, AreWithin, IsWithin, Notes};
 
 use crate::{BadCause, Said};
 use dm_binlog::{

@@ -1,16 +1,16 @@
-ghost use Rattle.std.specs.Prelude.{◌≡◌, ◌<◌, map, IfOk, IfSome, IfNone, IsTrue, MatchBool, length};
+ghost use Rattle.std.specs.Prelude.{◌≡◌, ◌<◌, map, All, IfOk, IfSome, IfNone, IsTrue, MatchBool, length};
 ghost use Rattle.std.specs.Option.{option_map};
 ghost use Rattle.dm_stream.specs.Sayings.{Heads};
 ghost use Rattle.dm_stream.specs.Logs.{AreHeads, log_of};
-ghost use Rattle.dm_stream.specs.Views.{seen, seen_file};
-ghost use Rattle.dm_stream.specs.Rests.{AreShort, IsNext, events_left, is_behind, is_passed, is_ready, left};
+ghost use Rattle.dm_stream.specs.Views.{seen, seen_file, IsShort};
+ghost use Rattle.dm_stream.specs.Rests.{IsNext, events_left, is_behind, is_passed, is_ready, left};
 
 use crate::file::OpenFile;
 use crate::{LogFault, LogFile, Logged};
 use std::alloc::{AllocError, Global};
 use std::marker::Model;
 
-/// What is left of a source's log, event by event. Behind an `Err` nothing is said of it.
+/// What is left of a source's log, which is read event by event. What an `Err` leaves isn't said.
 #[derive(Drop)]
 pub struct Stream<'a> {
     alloc: Global,
@@ -20,15 +20,15 @@ pub struct Stream<'a> {
 }
 
 impl<'a> Model for Stream<'a> {
-    ghost use Rattle.std.specs.Prelude.{map};
-    ghost use Rattle.dm_stream.specs.Rests.{Rest, AreShort};
-    ghost use Rattle.dm_stream.specs.Views.{seen_file};
+    ghost use Rattle.std.specs.Prelude.{map, All};
+    ghost use Rattle.dm_stream.specs.Rests.{Rest};
+    ghost use Rattle.dm_stream.specs.Views.{IsShort, seen_file};
 
     ghost Value = { Rest };
 
     ghost view = { λ stream. record { front = stream.front; files = map seen_file stream.files.now; start = stream.start } };
 
-    ghost invariant = { λ stream. AreShort (map seen_file stream.files.now) };
+    ghost invariant = { λ stream. All IsShort stream.files.now };
 }
 
 impl<'a> Stream<'a> {
@@ -38,9 +38,9 @@ impl<'a> Stream<'a> {
         files: &'a [LogFile<'a>],
         start: u32,
     ) -> Result<Stream<'a>, AllocError>
-        requires { AreShort (map seen_file files.now) }
+        requires { All IsShort files.now }
         ensures log { IfOk result (λ stream. (heads : Heads) → left heads stream ≡ log_of heads start (map seen_file files.now)) }
-        // What a statement's head says by its grammar is one thing for each text, so clauses on all such heads say something.
+        // Each text says something by the grammar of heads, so what the clauses say of such heads isn't empty.
         ensures exist { (heads : Heads) × AreHeads heads }
     {
         let mut stream = Stream {
@@ -62,7 +62,8 @@ impl<'a> Stream<'a> {
         let [first, rest @ ..] = self.files else {
             return Ok(false);
         };
-        self.front = OpenFile::open(self.alloc, *first, self.start, rest.is_empty())?;
+        self.front
+            .go_on(self.alloc, *first, self.start, rest.is_empty())?;
         self.files = rest;
         // The first event of a file stands at its byte 4.
         self.start = 4;

@@ -4,8 +4,11 @@ use std::fmt::Write;
 use std::test::Fail;
 
 const TABLE_MAP: &[u8] = b"\x05\0\0\0\0\0\x01\0\x01s\0\x01t\0\x01\x03\0\x01";
+
 const ROWS: &[u8] = b"\x05\0\0\0\0\0\x01\0\x02\0\x01\x01\0\x07\0\0\0";
+
 const ALTER: &[u8] = b"\x09\0\0\0\0\0\0\0\x01\0\0\0\0s\0ALTER TABLE t ADD c INT";
+
 const INSERT: &[u8] = b"\x09\0\0\0\0\0\0\0\x01\0\0\0\0s\0INSERT INTO t VALUES (1)";
 
 /// The first four bytes of a file and its format event; what isn't read of it is 0.
@@ -27,7 +30,9 @@ fn begin(alloc: Global) -> Result<Vec<u8>, AllocError> {
 fn push_event(file: &mut Vec<u8>, kind: u8, body: &[u8]) -> Result<(), Fail> {
     let mut header = [0; 19];
     header[4] = kind;
-    header[9] = u8::try_from(body.len())?.checked_add(19).ok_or("a long body")?;
+    header[9] = u8::try_from(body.len())?
+        .checked_add(19)
+        .ok_or("a long body")?;
     file.extend_from_slice(&header)?;
     file.extend_from_slice(body)?;
     Ok(())
@@ -60,14 +65,21 @@ fn write_said(text: &mut String, logged: &Logged<'_>) -> Result<(), Fail> {
         Said::Nothing => write!(text, "nothing\n")?,
         Said::Ends(cause) => write!(text, "{cause:?}\n")?,
         Said::Rows { map_event, .. } => write!(text, "rows of {}\n", map_event.at)?,
-        Said::Statement { text: statement, .. } => write!(text, "statement of {}\n", statement.len())?,
+        Said::Statement {
+            text: statement,
+            ..
+        } => write!(text, "statement of {}\n", statement.len())?,
     }
     Ok(())
 }
 
 fn write_fault(text: &mut String, fault: Option<LogFault>) -> Result<(), Fail> {
     if let Some(fault) = fault {
-        write!(text, "{} {} fault {:?}\n", fault.file, fault.at, fault.cause)?;
+        write!(
+            text,
+            "{} {} fault {:?}\n",
+            fault.file, fault.at, fault.cause
+        )?;
     }
     Ok(())
 }

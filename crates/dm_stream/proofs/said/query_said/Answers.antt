@@ -1,7 +1,6 @@
 use Rattle.std.proofs.Common.{◌∙◌, ap}
 use Rattle.std.proofs.lemmas.Result.{IfOk-weaker}
 use Rattle.dm_stream.specs.Sayings.{query_said}
-use Rattle.dm_stream.proofs.QueryLemmas.{query_short}
 use Rattle.dm_stream.proofs.said.query_said.Goals as goal
 
 pub returns-in-Some : goal.returns-in-Some

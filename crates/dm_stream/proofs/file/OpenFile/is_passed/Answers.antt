@@ -1,4 +1,4 @@
-use Rattle.std.proofs.Common.{◌≡◌, false, arith, length}
+use Rattle.std.proofs.Common.{◌≡◌, false, arith}
 use Rattle.std.specs.Option.{is_some}
 use Rattle.dm_stream.specs.Views.{seen_file}
 use Rattle.dm_stream.proofs.FileLemmas.{passes}

@@ -2,7 +2,7 @@ use Rattle.std.proofs.Common.{◌∙◌, ap, map}
 use Rattle.dm_stream.specs.Views.{seen_file}
 use Rattle.dm_stream.specs.Rests.{is_ready, left, no_heads}
 use Rattle.dm_stream.proofs.Heads.{the_heads, they_are}
-use Rattle.dm_stream.proofs.LogLemmas.{steps, keeps_fault, fewer, behind_last}
+use Rattle.dm_stream.proofs.LogLemmas.{steps, fewer, behind_last}
 use Rattle.dm_stream.proofs.stream.Stream.next_event.Goals as goal
 
 pub returns-clause-gives : goal.returns-clause-gives
