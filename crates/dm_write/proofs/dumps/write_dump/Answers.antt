@@ -1,6 +1,6 @@
 use Rattle.std.proofs.Common.{◌∙◌}
-use Rattle.dm_encode.proofs.Dumping.{dump_joined}
-use Rattle.dm_encode.proofs.dumps.write_dump.Goals as goal
+use Rattle.dm_write.proofs.Dumping.{dump_joined}
+use Rattle.dm_write.proofs.dumps.write_dump.Goals as goal
 
 pub returns : goal.returns
 returns c =

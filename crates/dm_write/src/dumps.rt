@@ -4,7 +4,7 @@ ghost use Rattle.std.specs.Cmp.Lexicographic.{pointwise};
 ghost use Rattle.dm_schema.specs.Fits.{fits};
 ghost use Rattle.dm_text.specs.Names.{quoted};
 ghost use Rattle.dm_text.specs.Values.{tuple_text};
-ghost use Rattle.dm_encode.specs.Dumps.{tuples_text, insert_text, rows_text, dump_text};
+ghost use Rattle.dm_write.specs.Dumps.{tuples_text, insert_text, rows_text, dump_text};
 
 use dm_schema::{Column, Schema};
 use dm_text::{push_create, push_name, push_tuple};
