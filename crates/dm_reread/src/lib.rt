@@ -1,0 +1,2 @@
+//! SQL that is written is read again: the tokens of written texts.
+#![tactic(auto)]
