@@ -1,5 +1,5 @@
 -- A written CREATE TABLE is a sentence of the grammar of statements.
-use Rattle.std.proofs.Common.{◌≡◌, ◌==◌, ℕ, Bool, true, false, not, ◌&&◌, ◌||◌, cond, leb, List, [], ◌∷◌, ◌++◌, map, refl, sym, ap, ◌∙◌, subst, arith, append-nil, length, suc}
+use Rattle.std.proofs.Common.{◌≡◌, ◌==◌, ℕ, zero, Bool, true, false, not, ◌&&◌, ◌||◌, cond, leb, List, [], ◌∷◌, ◌++◌, map, refl, sym, ap, ◌∙◌, subst, arith, append-nil, length, suc}
 use Rattle.std.specs.Prelude.{⊤, codes}
 use Rattle.std.specs.List.{flat_map, list_all, list_any}
 use Rattle.std.specs.Fmt.{decimal}
@@ -63,11 +63,11 @@ each_size P size one two three four eight h = by (size == 1) (size == 2) (size =
   by false false false false false p q r s t h = absurd cc
 
 pub each_prefix : (P : ℕ → Type 0) (prefix : ℕ) → P 1 → P 2 → P 3 → P 4 → is_between 1 4 prefix ≡ true → P prefix
-each_prefix P 0 one two three four h = absurd cc
-each_prefix P (suc 0) one two three four h = one
-each_prefix P (suc (suc 0)) one two three four h = two
-each_prefix P (suc (suc (suc 0))) one two three four h = three
-each_prefix P (suc (suc (suc (suc 0)))) one two three four h = four
+each_prefix P zero one two three four h = absurd cc
+each_prefix P (suc zero) one two three four h = one
+each_prefix P (suc (suc zero)) one two three four h = two
+each_prefix P (suc (suc (suc zero))) one two three four h = three
+each_prefix P (suc (suc (suc (suc zero)))) one two three four h = four
 each_prefix P (suc (suc (suc (suc (suc n))))) one two three four h = absurd (let parts = and_parts (leb 1 (suc (suc (suc (suc (suc n)))))) (leb (suc (suc (suc (suc (suc n))))) 4) h in let most = leb-true _ _ parts.1 in omega (arith, most))
 
 -- a number that is written whole is in a class that has them
@@ -215,14 +215,15 @@ says_default k (default.Const v) read =
 says_default k default.Now read =
     more_at_end _ (other _ (other _ (one _ (before terminal.DEFAULT role.DEFAULT terminal.DEFAULT _ refl refl (other _ (one _ (says_moment (fraction_digits k))))))))
 
-both_letters : (x y : List Sign) → letters_of (x ++ y) ≡ letters_of x ++ letters_of y
-both_letters x y = map-append letter_of x y
+-- signs behind one another
+joined : {g : Grammar} (x y : List Sign) → Speaks in_class g (letters_of x ++ letters_of y) → Speaks in_class g (letters_of (x ++ y))
+joined {g} x y p = subst (λ (z : List Letter). Speaks in_class g z) (sym (map-append letter_of x y)) p
 
 pub says_column : (c : Column) → is_kind c.kind ≡ true → DefaultIsRead c.kind c.default_rule → Says rule.column_definition (sign.column_signs c)
 says_column c is read =
     before class.COLUMN_NAME role.COLUMN_NAME terminal.QUOTED _ refl refl
-    (rw both_letters (both _ _ (says_kind c.kind is)
-    (rw both_letters (more _ _ (says_nullable c.nullable) (says_default c.kind c.default_rule read)))))
+    (joined (sign.kind_signs c.kind) (sign.attribute_signs c) (both _ _ (says_kind c.kind is)
+    (joined (sign.nullable_signs c.nullable) (sign.default_signs c.kind c.default_rule) (more _ _ (says_nullable c.nullable) (says_default c.kind c.default_rule read)))))
 
 -- Keys.
 
@@ -237,7 +238,7 @@ says_names : (names : List (List ℕ)) → (length names == 0) ≡ false → Say
 says_names [] some = absurd cc
 says_names (n ∷ ns) some =
     passing _ (append_nil_of _ (both _ [] (before terminal.OPENING role.FILLER terminal.OPENING _ refl refl
-    (rw both_letters (both _ _ (more_parts n ns) (word terminal.CLOSING role.FILLER terminal.CLOSING refl refl))))
+    (joined (sign.part_signs (n ∷ ns)) (sign.mark 41 role.FILLER ∷ []) (both _ _ (more_parts n ns) (word terminal.CLOSING role.FILLER terminal.CLOSING refl refl))))
     (one _ nothing)))
 
 says_primary : (names : List (List ℕ)) → (length names == 0) ≡ false → Says rule.primary_key (sign.primary_signs names)
@@ -265,7 +266,7 @@ more_uniques [] keys = no_more
 more_uniques (k ∷ ks) keys =
     let parts = and_parts (is_key k) (list_all is_key ks) keys in
     let key = and_parts (is_folded k.name) (not (length k.columns == 0)) parts.0 in
-    rw both_letters (more _ _ (before terminal.COMMA role.DEFINITION terminal.COMMA _ refl refl (unique_is_definition _ (says_unique k (not_false _ key.1)))) (more_uniques ks parts.1))
+    joined (sign.more_unique k) (flat_map sign.more_unique ks) (more _ _ (before terminal.COMMA role.DEFINITION terminal.COMMA _ refl refl (unique_is_definition _ (says_unique k (not_false _ key.1)))) (more_uniques ks parts.1))
 
 -- of each column the kind and the default are known
 abbrev pub ColumnsAreRead : List Column → Type 0
@@ -274,9 +275,9 @@ ColumnsAreRead (c ∷ cs) = (is_kind c.kind ≡ true) × DefaultIsRead c.kind c.
 
 definitions : (columns : List Column) (primary : List (List ℕ)) (uniques : List UniqueKey) → ColumnsAreRead columns → (length primary == 0) ≡ false → list_all is_key uniques ≡ true
     → Says (rule.separated rule.create_definition role.DEFINITION) (sign.definition_signs columns primary uniques)
-definitions [] primary uniques read some keys = rw both_letters (both _ _ (primary_is_definition _ (says_primary primary some)) (more_uniques uniques keys))
+definitions [] primary uniques read some keys = joined (sign.primary_signs primary) (flat_map sign.more_unique uniques) (both _ _ (primary_is_definition _ (says_primary primary some)) (more_uniques uniques keys))
 definitions (c ∷ cs) primary uniques read some keys =
-    rw both_letters (listed terminal.COMMA role.DEFINITION terminal.COMMA _ _ refl refl (column_is_definition _ (says_column c read.0 read.1)) (definitions cs primary uniques read.2 some keys))
+    joined (sign.column_signs c) (sign.mark 44 role.DEFINITION ∷ sign.definition_signs cs primary uniques) (listed terminal.COMMA role.DEFINITION terminal.COMMA _ _ refl refl (column_is_definition _ (says_column c read.0 read.1)) (definitions cs primary uniques read.2 some keys))
 
 pub says_create : (table : List ℕ) (layout : Layout) → ColumnsAreRead layout.columns → (length layout.primary == 0) ≡ false → list_all is_key layout.uniques ≡ true
     → Says rule.create_table_statement (sign.create_signs table layout)
@@ -285,5 +286,5 @@ says_create table layout read some keys =
     (both ((terminal.TABLE, role.CREATE_TABLE) ∷ (terminal.QUOTED, role.NAME_PART) ∷ []) _
     (before terminal.TABLE role.CREATE_TABLE terminal.TABLE _ refl refl (other _ (before class.TABLE_NAME role.NAME_PART terminal.QUOTED _ refl refl (one _ nothing))))
     (one _ (before terminal.OPENING role.DEFINITION terminal.OPENING _ refl refl
-    (rw both_letters (both _ _ (definitions layout.columns layout.primary layout.uniques read some keys)
+    (joined (sign.definition_signs layout.columns layout.primary layout.uniques) (sign.mark 41 role.FILLER ∷ []) (both _ _ (definitions layout.columns layout.primary layout.uniques read some keys)
     (both ((terminal.CLOSING, role.FILLER) ∷ []) [] (word terminal.CLOSING role.FILLER terminal.CLOSING refl refl) no_more))))))

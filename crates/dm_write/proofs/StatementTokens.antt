@@ -1,5 +1,5 @@
 -- What the grammar of statements sees of written tokens.
-use Rattle.std.proofs.Common.{◌≡◌, ◌==◌, ℕ, Bool, true, false, ◌&&◌, ◌||◌, cond, List, [], ◌∷◌, refl, ap, ◌∙◌}
+use Rattle.std.proofs.Common.{◌≡◌, ◌==◌, ℕ, Bool, true, false, ◌&&◌, ◌||◌, cond, List, [], ◌∷◌, refl, sym, ap, ◌∙◌}
 use Rattle.std.specs.List.{list_any, list_all}
 use Rattle.std.specs.Fmt.{decimal}
 use Rattle.std.proofs.lemmas.Bool.{and_parts, eqb-true}
@@ -36,10 +36,10 @@ seen_as text t = by t.kind where
 -- digits have no point
 no_point : (bytes : List ℕ) → list_all is_digit bytes ≡ true → list_any (λ b. b == 46) bytes ≡ false
 no_point [] h = refl
-no_point (b ∷ bs) h = by (b == 46) refl (and_parts (is_digit b) (list_all is_digit bs) h) where
-  by : (t : Bool) → (b == 46) ≡ t → (is_digit b ≡ true) × (list_all is_digit bs ≡ true) → (t || list_any (λ b. b == 46) bs) ≡ false
-  by true e parts = absurd (let same = eqb-true b 46 e in let never : is_digit 46 ≡ true = rw (← same) parts.0 in cc)
-  by false e parts = no_point bs parts.1
+no_point (b ∷ bs) h = let parts = and_parts (is_digit b) (list_all is_digit bs) h in by (b == 46) refl parts.0 (no_point bs parts.1) where
+  by : (t : Bool) → (b == 46) ≡ t → is_digit b ≡ true → list_any (λ b. b == 46) bs ≡ false → (t || list_any (λ b. b == 46) bs) ≡ false
+  by true e digit rest = absurd (let never : is_digit 46 ≡ true = ap is_digit (sym (eqb-true b 46 e)) ∙ digit in cc)
+  by false e digit rest = rest
 
 pub whole_seen : (n : ℕ) → terminal_seen (record { kind = token.Number; bytes = decimal n }) ≡ terminal.WHOLE
 whole_seen n = rw (no_point (decimal n) (decimal_is_digits n)) refl
