@@ -1,1 +1,13 @@
+pub mod Composing
+pub mod Follows
+pub mod Lexing
+pub mod Written
+pub mod Digits
+pub mod Plain
+pub mod Spelled
+pub mod Decimals
+pub mod Names
+pub mod Bounds
+pub mod Reading
+pub mod Rereading
 pub mod Laws

@@ -111,7 +111,7 @@ number n = Piece token.Number (decimal n)
 
 -- parts in brackets
 abbrev pub bracketed : List Part → List Part
-bracketed parts = mark 40 ∷ parts ++ mark 41 ∷ []
+bracketed parts = mark 40 ∷ (parts ++ mark 41 ∷ [])
 
 abbrev pub behind_comma : List Part → List Part
 behind_comma item = mark 44 ∷ item
@@ -241,7 +241,7 @@ default_parts k default.Now = Blank 32 ∷ word (codes "DEFAULT") ∷ Blank 32 �
 
 -- `name` TYPE NULL DEFAULT value
 abbrev pub column_parts : Column → List Part
-column_parts c = name_part c.name ∷ Blank 32 ∷ kind_parts c.kind ++ nullable_parts c.nullable ++ default_parts c.kind c.default_rule
+column_parts c = name_part c.name ∷ Blank 32 ∷ (kind_parts c.kind ++ (nullable_parts c.nullable ++ default_parts c.kind c.default_rule))
 
 -- a column of a create, and what parts it from what follows
 abbrev pub column_item : Column → List Part
@@ -256,10 +256,9 @@ unique_item k = mark 44 ∷ Blank 32 ∷ word (codes "UNIQUE") ∷ Blank 32 ∷ 
 
 -- columns, the primary key and the unique keys
 abbrev pub layout_parts : Layout → List Part
-layout_parts layout = flat_map column_item layout.columns ++ primary_parts layout.primary ++ flat_map unique_item layout.uniques
+layout_parts layout = flat_map column_item layout.columns ++ (primary_parts layout.primary ++ flat_map unique_item layout.uniques)
 
 -- a table of any name
 abbrev pub create_parts : List Part → Layout → List Part
 create_parts name layout =
-    word (codes "CREATE") ∷ Blank 32 ∷ word (codes "TABLE") ∷ Blank 32 ∷ name
-    ++ Blank 32 ∷ mark 40 ∷ layout_parts layout ++ mark 41 ∷ mark 59 ∷ Blank 10 ∷ []
+    word (codes "CREATE") ∷ Blank 32 ∷ word (codes "TABLE") ∷ Blank 32 ∷ (name ++ (Blank 32 ∷ mark 40 ∷ (layout_parts layout ++ mark 41 ∷ mark 59 ∷ Blank 10 ∷ [])))

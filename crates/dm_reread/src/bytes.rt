@@ -1,0 +1,48 @@
+ghost use Rattle.std.specs.Prelude.{IsTrue};
+ghost use Rattle.std.specs.List.{list_all};
+ghost use Rattle.dm_reread.specs.Parts.{are_bytes, has_bytes, default_has_bytes};
+
+use dm_schema::{Column, DefaultRule};
+use dm_value::Value;
+
+/// Says of a slice what its type does.
+fn slice_bytes(bytes: &[u8])
+    ensures { IsTrue (are_bytes bytes.now) }
+{
+    let _count = bytes.len();
+}
+
+/// Says that the bytes of a value have 8 bits, which laws of written texts ask for.
+pub fn value_bytes(value: &Value)
+    ensures { IsTrue (has_bytes value.now) }
+{
+    if let Value::Bytes(bytes) = value {
+        slice_bytes(bytes.as_slice());
+    }
+}
+
+/// Says so of each value of a row.
+pub fn row_bytes(row: &[Value])
+    ensures { IsTrue (list_all has_bytes row.now) }
+{
+    for value in row {
+        value_bytes(value);
+    }
+}
+
+fn default_bytes(column: &Column)
+    ensures { IsTrue (default_has_bytes column.now) }
+{
+    if let DefaultRule::Const(value) = &column.default_rule {
+        value_bytes(value);
+    }
+}
+
+/// Says so of each column's default.
+pub fn column_bytes(columns: &[Column])
+    ensures { IsTrue (list_all default_has_bytes columns.now) }
+{
+    for column in columns {
+        default_bytes(column);
+    }
+}
