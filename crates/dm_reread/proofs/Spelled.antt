@@ -266,7 +266,7 @@ primary_is_spelled names behind = name_list_is_spelled names behind
 unique_is_spelled : (k : UniqueKey) (behind : List ℕ) → is_spelled_before behind (unique_item k) ≡ true
 unique_is_spelled k behind = name_before k.name (Blank 32 ∷ name_list_parts k.columns) behind refl (name_list_is_spelled k.columns behind)
 
-layout_is_spelled : (layout : Layout) (behind : List ℕ) → list_all default_has_bytes layout.columns ≡ true → is_spelled_before behind (layout_parts layout) ≡ true
+pub layout_is_spelled : (layout : Layout) (behind : List ℕ) → list_all default_has_bytes layout.columns ≡ true → is_spelled_before behind (layout_parts layout) ≡ true
 layout_is_spelled layout behind bytes =
     let keys : List Part = primary_parts layout.primary ++ flat_map unique_item layout.uniques in
     both_are_spelled (flat_map column_item layout.columns) keys behind (columns_are_spelled layout.columns (text_of keys ++ behind) bytes)
