@@ -1,5 +1,5 @@
 -- The literals of a written row, read from its bracket on, are its values.
-use Rattle.std.proofs.Common.{◌≡◌, ℕ, ◌+◌, Bool, true, false, ◌&&◌, cond, List, [], ◌∷◌, ◌++◌, length, Option, Some, None, refl, sym, ap, ◌∙◌, subst, arith, append_assoc}
+use Rattle.std.proofs.Common.{◌≡◌, ℕ, suc, ◌+◌, Bool, true, false, ◌&&◌, cond, List, [], ◌∷◌, ◌++◌, length, Option, Some, None, refl, sym, ap, ◌∙◌, subst, arith, append_assoc, append-nil}
 use Rattle.std.specs.Prelude.{⊤, codes}
 use Rattle.std.specs.List.{list_all, flat_map}
 use Rattle.std.specs.Cmp.Lexicographic.{pointwise}
@@ -34,8 +34,8 @@ AreRead (c ∷ cs) (v ∷ vs) = IsRead c.kind v (value_parts c.kind v) × (fits 
 
 kind_of_column : (c : Column) → is_column c ≡ true → is_kind c.kind ≡ true
 kind_of_column c h =
-    let parts = and_parts (is_folded c.name) (is_kind c.kind && is_rule c.default_rule) h in
-    (and_parts (is_kind c.kind) (is_rule c.default_rule) parts.1).0
+    let parts = and_parts (is_folded c.name && is_kind c.kind) (is_rule c.default_rule) h in
+    (and_parts (is_folded c.name) (is_kind c.kind) parts.0).1
 
 pub are_read : (cs : List Column) (vs : List Value) → list_all is_column cs ≡ true → pointwise fits vs cs ≡ true → list_all has_bytes vs ≡ true → AreRead cs vs
 are_read [] [] columns fit bytes = tt
@@ -76,12 +76,11 @@ minus_part : (text : List ℕ) (at : ℕ) (k : Kind) (v : Value) (digits : List 
 minus_part text at k v digits rest h s =
     let first = seen_at text at token.Mark (45 ∷ []) (Piece token.Number digits ∷ rest) s in
     let behind = past text at (mark 45) (Piece token.Number digits ∷ rest) s in
-    let second = seen_at text (at + 1) token.Number digits rest behind in
     let none = append-nil digits in
-    let place : at + (1 + length digits) ≡ at + 1 + length digits = omega arith in
+    let place : at + suc (length digits) ≡ at + 1 + length digits = omega arith in
     rw (none, place) (record {
       literal = record { first = token_at at token.Mark (45 ∷ []); minus = true; value = token_at (at + 1) token.Number digits };
-      stands = rw (first, second) refl;
+      stands = rw first refl;
       says = ap (literal_of k true token.Number) (bytes_at text (at + 1) token.Number digits rest behind) ∙ h;
     })
 
