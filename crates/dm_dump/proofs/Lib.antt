@@ -5,4 +5,5 @@ pub mod Stream
 pub mod UnitLemmas
 pub mod OutlineLemmas
 pub mod DumpLemmas
+pub mod OneReading
 pub mod Laws
