@@ -75,6 +75,12 @@ both_are_spelled (Piece kind bytes ∷ front) back behind first second =
     let here : is_piece kind (length bytes) (lexeme_of (bytes ++ (text_of (front ++ back) ++ behind))) ≡ true = ap (λ (xs : List ℕ). is_piece kind (length bytes) (lexeme_of (bytes ++ xs))) (text_before front back behind) ∙ parts.0 in
     and_from (is_piece kind (length bytes) (lexeme_of (bytes ++ (text_of (front ++ back) ++ behind)))) (is_spelled_before behind (front ++ back)) here (both_are_spelled front back behind parts.1 second)
 
+pub back_is_spelled : (front back : List Part) (behind : List ℕ) → is_spelled_before behind (front ++ back) ≡ true → is_spelled_before behind back ≡ true
+back_is_spelled [] back behind all = all
+back_is_spelled (Blank b ∷ front) back behind all = back_is_spelled front back behind (and_parts (is_blank b) (is_spelled_before behind (front ++ back)) all).1
+back_is_spelled (Piece kind bytes ∷ front) back behind all =
+    back_is_spelled front back behind (and_parts (is_piece kind (length bytes) (lexeme_of (bytes ++ (text_of (front ++ back) ++ behind)))) (is_spelled_before behind (front ++ back)) all).1
+
 -- What stands in a text from a place on.
 
 within : (text : List ℕ) (at b : ℕ) (xs : List ℕ) → drop at text ≡ b ∷ xs → at < length text
@@ -139,6 +145,11 @@ parts_are_lexed at parts spells =
 pub text_has_tokens : (parts : List Part) → is_spelled parts ≡ true → tokens_of (text_of parts) ≡ Ok (tokens_from 0 parts)
 unfolding tokens_of
 text_has_tokens parts spells = ap all_tokens (parts_are_lexed 0 parts spells)
+
+-- the tokens behind the first parts of a text
+pub back_is_lexed : (text : List ℕ) (front back : List Part) → text ≡ text_of (front ++ back) → is_spelled back ≡ true → lexed_at text (length (text_of front)) ≡ lexed_as (length (text_of front)) back
+back_is_lexed text front back is spells =
+    whole_lexed text (length (text_of front)) back (ap (drop (length (text_of front))) (is ∙ text_of_both front back) ∙ drop_at (text_of front) (text_of back) (length (text_of front)) refl) spells
 
 pub tokens_of_both : (at : ℕ) (front back : List Part) → tokens_from at (front ++ back) ≡ tokens_from at front ++ tokens_from (at + length (text_of front)) back
 tokens_of_both at [] back = let same : at ≡ at + 0 = omega arith in ap (λ (n : ℕ). tokens_from n back) same

@@ -29,7 +29,7 @@ use Rattle.dm_reread.proofs.Digits.{decimal_is_digits, decimal_some, digits_are_
 -- Lists of parts.
 
 -- each item is spelled before each text that may follow
-abbrev AreSpelled : List (List Part) → Type 0
+abbrev pub AreSpelled : List (List Part) → Type 0
 AreSpelled [] = Unit {0}
 AreSpelled (item ∷ items) = ((behind : List ℕ) → may_follow behind ≡ true → is_spelled_before behind item ≡ true) × AreSpelled items
 
@@ -42,13 +42,20 @@ further_are_spelled [] behind each follows = refl
 further_are_spelled (item ∷ items) behind each follows =
     both_are_spelled item (flat_map behind_comma items) behind (each.0 (text_of (flat_map behind_comma items) ++ behind) (further_follow items behind follows)) (further_are_spelled items behind each.1 follows)
 
-commas_are_spelled : (items : List (List Part)) (behind : List ℕ) → AreSpelled items → may_follow behind ≡ true → is_spelled_before behind (comma_parts items) ≡ true
+pub commas_are_spelled : (items : List (List Part)) (behind : List ℕ) → AreSpelled items → may_follow behind ≡ true → is_spelled_before behind (comma_parts items) ≡ true
 commas_are_spelled [] behind each follows = refl
 commas_are_spelled (item ∷ items) behind each follows =
     both_are_spelled item (flat_map behind_comma items) behind (each.0 (text_of (flat_map behind_comma items) ++ behind) (further_follow items behind follows)) (further_are_spelled items behind each.1 follows)
 
-bracketed_is_spelled : (parts : List Part) (behind : List ℕ) → is_spelled_before (41 ∷ behind) parts ≡ true → is_spelled_before behind (bracketed parts) ≡ true
+pub bracketed_is_spelled : (parts : List Part) (behind : List ℕ) → is_spelled_before (41 ∷ behind) parts ≡ true → is_spelled_before behind (bracketed parts) ≡ true
 bracketed_is_spelled parts behind inner = both_are_spelled parts (mark 41 ∷ []) behind inner refl
+
+-- items that pass a test and are spelled then
+pub items_are_spelled : {A : Type 0} (f : A → List Part) (test : A → Bool) → ((x : A) (behind : List ℕ) → test x ≡ true → may_follow behind ≡ true → is_spelled_before behind (f x) ≡ true) → (xs : List A) → list_all test xs ≡ true → AreSpelled (map f xs)
+items_are_spelled f test each [] all = tt
+items_are_spelled f test each (x ∷ xs) all =
+    let parts = and_parts (test x) (list_all test xs) all in
+    (λ behind follows. each x behind parts.0 follows, items_are_spelled f test each xs parts.1)
 
 -- items that are spelled before every text
 pub all_are_spelled : {A : Type 0} (f : A → List Part) → ((x : A) (behind : List ℕ) → is_spelled_before behind (f x) ≡ true) → (xs : List A) (behind : List ℕ) → is_spelled_before behind (flat_map f xs) ≡ true
@@ -61,7 +68,7 @@ pub name_is_spelled : (name behind : List ℕ) → starts 96 behind ≡ false �
 name_is_spelled name behind ends = one_is_spelled token.Quoted (quoted name) behind (name_is_piece name behind ends)
 
 -- a name before further parts
-name_before : (name : List ℕ) (parts : List Part) (behind : List ℕ) → starts 96 (text_of parts ++ behind) ≡ false → is_spelled_before behind parts ≡ true → is_spelled_before behind (name_part name ∷ parts) ≡ true
+pub name_before : (name : List ℕ) (parts : List Part) (behind : List ℕ) → starts 96 (text_of parts ++ behind) ≡ false → is_spelled_before behind parts ≡ true → is_spelled_before behind (name_part name ∷ parts) ≡ true
 name_before name parts behind ends rest = and_from (is_piece token.Quoted (length (quoted name)) (lexeme_of (quoted name ++ (text_of parts ++ behind)))) (is_spelled_before behind parts) (name_is_piece name (text_of parts ++ behind) ends) rest
 
 names_are_spelled : (names : List (List ℕ)) → AreSpelled (map name_item names)

@@ -23,32 +23,35 @@ use Rattle.dm_reread.proofs.Composing.{text_of_both}
 
 -- Lists of parts.
 
-pub all_written : {A : Type 0} (f : A → List Part) (g : A → List ℕ) → ((x : A) → text_of (f x) ≡ g x) → (xs : List A) → text_of (flat_map f xs) ≡ flat_map g xs
-all_written f g each [] = refl
-all_written f g each (x ∷ xs) = text_of_both (f x) (flat_map f xs) ∙ (λ i. each x i ++ all_written f g each xs i)
+pub all_are_written : {A : Type 0} (f : A → List Part) (g : A → List ℕ) → ((x : A) → text_of (f x) ≡ g x) → (xs : List A) → text_of (flat_map f xs) ≡ flat_map g xs
+all_are_written f g each [] = refl
+all_are_written f g each (x ∷ xs) = text_of_both (f x) (flat_map f xs) ∙ (λ i. each x i ++ all_are_written f g each xs i)
 
-bracketed_written : (parts : List Part) (text : List ℕ) → text_of parts ≡ text → text_of (bracketed parts) ≡ 40 ∷ (text ++ 41 ∷ [])
-bracketed_written parts text is = ap (λ (xs : List ℕ). 40 ∷ xs) (text_of_both parts (mark 41 ∷ []) ∙ ap (λ (xs : List ℕ). xs ++ 41 ∷ []) is)
+pub bracketed_is_written : (parts : List Part) (text : List ℕ) → text_of parts ≡ text → text_of (bracketed parts) ≡ 40 ∷ (text ++ 41 ∷ [])
+bracketed_is_written parts text is = ap (λ (xs : List ℕ). 40 ∷ xs) (text_of_both parts (mark 41 ∷ []) ∙ ap (λ (xs : List ℕ). xs ++ 41 ∷ []) is)
 
 further_written : (items : List (List Part)) → text_of (flat_map behind_comma items) ≡ flat_map (λ piece. 44 ∷ piece) (map text_of items)
 further_written [] = refl
 further_written (item ∷ items) = ap (λ (xs : List ℕ). 44 ∷ xs) (text_of_both item (flat_map behind_comma items) ∙ ap (λ (xs : List ℕ). text_of item ++ xs) (further_written items))
 
-commas_written : (items : List (List Part)) → text_of (comma_parts items) ≡ with_commas (map text_of items)
-commas_written [] = refl
-commas_written (item ∷ items) = text_of_both item (flat_map behind_comma items) ∙ ap (λ (xs : List ℕ). text_of item ++ xs) (further_written items)
+pub commas_are_written : (items : List (List Part)) → text_of (comma_parts items) ≡ with_commas (map text_of items)
+commas_are_written [] = refl
+commas_are_written (item ∷ items) = text_of_both item (flat_map behind_comma items) ∙ ap (λ (xs : List ℕ). text_of item ++ xs) (further_written items)
+
+-- items that are each written as a text
+pub items_are_written : {A : Type 0} (f : A → List Part) (g : A → List ℕ) → ((x : A) → text_of (f x) ≡ g x) → (xs : List A) → text_of (comma_parts (map f xs)) ≡ with_commas (map g xs)
+items_are_written {A = A} f g each xs = commas_are_written (map f xs) ∙ ap with_commas (by xs) where
+  by : (xs : List A) → map text_of (map f xs) ≡ map g xs
+  by [] = refl
+  by (x ∷ xs) = λ i. each x i ∷ by xs i
 
 -- Names.
 
 pub name_is_written : (name : List ℕ) → text_of (name_item name) ≡ quoted name
 name_is_written name = append-nil (quoted name)
 
-names_written : (names : List (List ℕ)) → map text_of (map name_item names) ≡ map quoted names
-names_written [] = refl
-names_written (name ∷ names) = λ i. name_is_written name i ∷ names_written names i
-
 pub name_list_is_written : (names : List (List ℕ)) → text_of (name_list_parts names) ≡ name_list names
-name_list_is_written names = bracketed_written (comma_parts (map name_item names)) (with_commas (map quoted names)) (commas_written (map name_item names) ∙ ap with_commas (names_written names))
+name_list_is_written names = bracketed_is_written (comma_parts (map name_item names)) (with_commas (map quoted names)) (items_are_written name_item quoted name_is_written names)
 
 pub table_name_is_written : (t : TableName) → text_of (table_name_parts t) ≡ table_name_text t
 table_name_is_written t = ap (λ (xs : List ℕ). quoted t.db ++ 46 ∷ xs) (name_is_written t.table)
@@ -85,7 +88,7 @@ values_written (c ∷ cs) [] = refl
 values_written (c ∷ cs) (v ∷ vs) = λ i. value_is_written c.kind v i ∷ values_written cs vs i
 
 pub tuple_is_written : (columns : List Column) (row : List Value) → text_of (tuple_parts columns row) ≡ tuple_text columns row
-tuple_is_written columns row = bracketed_written (comma_parts (all_value_parts columns row)) (with_commas (value_texts columns row)) (commas_written (all_value_parts columns row) ∙ ap with_commas (values_written columns row))
+tuple_is_written columns row = bracketed_is_written (comma_parts (all_value_parts columns row)) (with_commas (value_texts columns row)) (commas_are_written (all_value_parts columns row) ∙ ap with_commas (values_written columns row))
 
 -- Kinds.
 
@@ -148,7 +151,7 @@ layout_written : (layout : Layout) → text_of (layout_parts layout) ≡ parts_t
 layout_written layout =
     text_of_both (flat_map column_item layout.columns) (primary_parts layout.primary ++ flat_map unique_item layout.uniques)
     ∙ ap (λ (xs : List ℕ). text_of (flat_map column_item layout.columns) ++ xs) (text_of_both (primary_parts layout.primary) (flat_map unique_item layout.uniques))
-    ∙ (λ i. all_written column_item column_part column_item_written layout.columns i ++ (primary_written layout.primary i ++ all_written unique_item unique_part unique_written layout.uniques i))
+    ∙ (λ i. all_are_written column_item column_part column_item_written layout.columns i ++ (primary_written layout.primary i ++ all_are_written unique_item unique_part unique_written layout.uniques i))
     ∙ sym (append_assoc (flat_map column_part layout.columns) (primary_part layout.primary) (flat_map unique_part layout.uniques))
 
 create_texts : (name inner : List ℕ) → codes "CREATE TABLE " ++ (name ++ 32 ∷ 40 ∷ (inner ++ codes ");\n")) ≡ codes "CREATE TABLE " ++ name ++ codes " (" ++ inner ++ codes ");\n"

@@ -3,16 +3,14 @@ ghost use Rattle.std.specs.List.{list_all};
 ghost use Rattle.dm_reread.specs.Parts.{are_bytes, has_bytes, default_has_bytes};
 
 use dm_schema::{Column, DefaultRule};
-use dm_value::Value;
+use dm_value::{Row, Value};
 
-/// Says of a slice what its type does.
+/// Says of a slice what its type does: its bytes are below 256.
 fn slice_bytes(bytes: &[u8])
     ensures { IsTrue (are_bytes bytes.now) }
-{
-    let _count = bytes.len();
-}
+{}
 
-/// Says that the bytes of a value have 8 bits, which laws of written texts ask for.
+/// Says that the bytes of a value are below 256, which the laws of written texts ask for.
 pub fn value_bytes(value: &Value)
     ensures { IsTrue (has_bytes value.now) }
 {
@@ -27,6 +25,15 @@ pub fn row_bytes(row: &[Value])
 {
     for value in row {
         value_bytes(value);
+    }
+}
+
+/// Says so of each value of each row.
+pub fn rows_bytes(rows: &[Row])
+    ensures { IsTrue (list_all (λ row. list_all has_bytes row) rows.now) }
+{
+    for row in rows {
+        row_bytes(row.as_slice());
     }
 }
 

@@ -24,6 +24,5 @@ pub fn law_of_values(kind: Kind, value: &Value)
 pub fn law_of_creates(name: &Name, schema: &Schema)
     ensures { HasTokens (create_text (quoted name.now) schema.now) (create_parts (name_item name.now) schema.now) }
 {
-    let _length = name.len();
     column_bytes(schema.columns());
 }
