@@ -135,7 +135,7 @@ behind_roles k default.Nothing = refl
 behind_roles k (default.Const v) = value_roles (spelled (value_parts k v))
 behind_roles k default.Now = if_brackets is_value_role role.NOW_FRACTION (fraction_digits k) (fraction_digits k == 0) refl refl
 
-weaker : (P Q : ℕ → Bool) (signs : List Sign) → ((r : ℕ) → P r ≡ true → Q r ≡ true) → only P signs ≡ true → only Q signs ≡ true
+pub weaker : (P Q : ℕ → Bool) (signs : List Sign) → ((r : ℕ) → P r ≡ true → Q r ≡ true) → only P signs ≡ true → only Q signs ≡ true
 weaker P Q [] w h = refl
 weaker P Q (s ∷ ss) w h =
     let parts = and_parts (P s.role) (only P ss) h in

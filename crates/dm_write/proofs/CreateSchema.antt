@@ -34,7 +34,7 @@ pub record SayAll (primary : List (List ℕ)) (cs : List Column) (names : List (
 nothing_said : (primary : List (List ℕ)) → SayAll primary [] [] [] []
 nothing_said primary = record { columns = refl; keys = refl; uniques = refl; fit = refl; small = refl }
 
-abbrev each_shown : List (List Sign) → List (List Seen)
+abbrev pub each_shown : List (List Sign) → List (List Seen)
 each_shown items = map all_shown items
 
 column_said : (primary : List (List ℕ)) (d : Sign) (c : Column) (cs : List Column) (keys : List (List (List ℕ))) (uniques : List WrittenKey) (xss : List (List Seen)) → IsWritten c → SayAll primary cs keys uniques xss → SayAll primary (c ∷ cs) keys uniques (all_shown (column_item d c) ∷ xss)
