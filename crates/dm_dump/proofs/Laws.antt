@@ -14,6 +14,9 @@ use Rattle.dm_schema.specs.Kinds.{is_column, is_key}
 use Rattle.dm_schema.specs.Layout.{Layout}
 use Rattle.dm_schema.specs.Names.{Text, same_name, column_at, column_names, has_column}
 use Rattle.dm_schema.specs.Schemas.{all_columns, names_repeat, column_repeats, key_repeats, some_key_repeats_names, refusals, is_formed}
+use Rattle.dm_grammar.specs.Reading.{Outcome}
+use Rattle.dm_lex.specs.declared.token.Token.{Token}
+use Rattle.dm_lex.specs.Tokens.{lexed_of}
 use Rattle.dm_syntax.specs.declared.piece.Piece.{Piece}
 use Rattle.dm_syntax.specs.Pieces.{has_role}
 use Rattle.dm_dump.specs.declared.fault.Fault.{Fault}
@@ -21,12 +24,17 @@ use Rattle.dm_dump.specs.declared.fault.DumpFault.{DumpFault}
 use Rattle.dm_dump.specs.declared.literal.Literal.{Literal}
 use Rattle.dm_dump.specs.declared.inserts.Inserts.{Inserts}
 use Rattle.dm_dump.specs.declared.role.TheConstants as role
-use Rattle.dm_dump.specs.Reading.{Contents}
+use Rattle.dm_dump.specs.Terminals.{in_class}
+use Rattle.dm_dump.specs.Productions.{dump_grammar}
+use Rattle.dm_dump.specs.Reading.{kinds_of, Contents, contents, HasContents}
 use Rattle.dm_dump.specs.Units.{units}
 use Rattle.dm_dump.specs.Outlines.{least, second_place, second_create}
 use Rattle.dm_dump.specs.Literals.{has_bracket, literals_at, value_in, values_of, first_unfit}
 use Rattle.dm_dump.specs.Orders.{is_order, columns_by, stand_so, in_schema_order, row_of}
 use Rattle.dm_dump.specs.Rows.{Gathered, nothing, names_other, lacks_column, head_fault, order_in, unfit, row_fault, with_order, with_head, with_row, with_unit, gathered, unless, rows_of}
+use Rattle.dm_dump.proofs.Small.{kinds_small}
+use Rattle.dm_dump.proofs.Ready.{dump_ready}
+use Rattle.dm_dump.proofs.OneReading.{one_reading}
 
 equal_names : (a b : Text) → same_name a b ≡ true → a ≡ b
 equal_names a b h = same_text a b (sym h)
@@ -290,7 +298,7 @@ count_names : (columns : List Column) → length (column_names columns) ≡ leng
 count_names [] = refl
 count_names (c ∷ cs) = ap suc (count_names cs)
 
-own_order : (layout : Layout) → is_formed layout ≡ true → is_order layout.columns (column_names layout.columns) ≡ true
+pub own_order : (layout : Layout) → is_formed layout ≡ true → is_order layout.columns (column_names layout.columns) ≡ true
 own_order layout formed =
     let last = and_parts (list_all is_column layout.columns && list_all is_key layout.uniques && leb (length layout.uniques) 16) (is_none (first_refusal (refusals layout.columns layout.primary layout.uniques))) formed in
     let keys = key_repeats layout.uniques in
@@ -325,3 +333,11 @@ rows_stand text table layout all inserts formed answer =
         → inserts.places ≡ (gathered text table layout.columns (units all.pieces)).places
     good None e = ap places_in (sym e)
     good (Some f) e = absurd cc
+
+-- A text has one reading as a dump.
+pub one_contents : (text : List ℕ) (a b : Contents) → HasContents text a → HasContents text b → a ≡ b
+one_contents text a b (roles, first, reading, is) (others, other, again, there) =
+    let tokens : List Token = (lexed_of text).tokens in
+    let one = one_reading in_class dump_grammar (kinds_of text tokens) roles first (kinds_small text tokens) dump_ready reading in
+    let two = one_reading in_class dump_grammar (kinds_of text tokens) others other (kinds_small text tokens) dump_ready again in
+    is ∙ ap (λ (z : Outcome). contents text None (lexed_of text) z.0 z.1) (one ∙ sym two) ∙ sym there

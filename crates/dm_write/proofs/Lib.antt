@@ -17,3 +17,5 @@ pub mod Restated
 pub mod DumpTokens
 pub mod RowValues
 pub mod DumpSentence
+pub mod DumpPieces
+pub mod DumpRows
