@@ -22,6 +22,7 @@ use Rattle.dm_dump.specs.Units.{begins_unit, units}
 use Rattle.dm_dump.specs.Literals.{has_bracket, literals_at, value_in, values_of, first_unfit}
 use Rattle.dm_dump.specs.Orders.{is_order, columns_by, stand_so, in_schema_order, values_in, row_of}
 use Rattle.dm_dump.specs.Rows.{is_table, order_in, unfit, row_fault, Gathered, nothing, with_order, with_head, with_place, with_row, with_unit, gathered}
+use Rattle.dm_write.proofs.Splitting.{either_false}
 use Rattle.dm_write.proofs.Placed.{token_at}
 use Rattle.dm_write.proofs.DumpPieces.{KeptPiece, piece, open_piece, close_piece, closed_at, row_pieces, further_places, behind_further, further_pieces, end_piece, line_end_at, all_rows, head_pieces, name_at, values_at, rows_at, insert_pieces}
 
@@ -105,3 +106,79 @@ further_gathered text table cs all at (row ∷ rows) places orders end stand las
     ap (λ g. fold (step text table all) g (further_units text rest cs rows ++ (end ∷ []) ∷ [])) here
     ∙ further_gathered text table cs all rest rows (places ++ (at + 1) ∷ []) orders end stand.1 (subst (λ z. step text table all (gathered_as cs z orders) (end ∷ []) ≡ gathered_as cs z orders) (sym joined) last)
     ∙ ap (λ z. gathered_as cs z orders) joined
+
+-- The head of the line.
+
+same_itself : (name : Text) → same_name name name ≡ true
+same_itself name = nat_list_eq_equiv.refl name
+
+-- a column's name finds it
+skipped : (c : Column) (cs : List Column) (names : List Text) → list_any (λ n. same_name c.name n) names ≡ false → columns_by (c ∷ cs) names ≡ columns_by cs names
+skipped c cs [] h = refl
+skipped c cs (n ∷ ns) h =
+    let both = either_false (same_name c.name n) (list_any (λ n. same_name c.name n) ns) h in
+    rw both.0 (ap (λ z. option_to_list (column_at cs n) ++ z) (skipped c cs ns both.1))
+
+pub own_columns : (cs : List Column) → names_repeat (column_names cs) ≡ false → columns_by cs (column_names cs) ≡ cs
+own_columns [] h = refl
+own_columns (c ∷ cs) h =
+    let both = either_false (list_any (λ n. same_name c.name n) (column_names cs)) (names_repeat (column_names cs)) h in
+    rw (same_itself c.name) (ap (λ z. c ∷ z) (skipped c cs (column_names cs) both.0 ∙ own_columns cs both.1))
+
+pub stands_so : (cs : List Column) → stand_so cs (column_names cs) ≡ true
+stands_so [] = refl
+stands_so (c ∷ cs) = rw (same_itself c.name) (stands_so cs)
+
+no_repeat : (b : Bool) → not b ≡ true → b ≡ false
+no_repeat true h = absurd cc
+no_repeat false h = refl
+
+pub order_is_own : (cs : List Column) → is_order cs (column_names cs) ≡ true → columns_by cs (column_names cs) ≡ cs
+order_is_own cs h = own_columns cs (no_repeat (names_repeat (column_names cs)) (and_parts (length (column_names cs) == length cs && all_columns cs (column_names cs)) (not (names_repeat (column_names cs))) h).1)
+
+if_both : {A B : Type 0} (b o : Bool) (f : A → B) (v : Option A) (x : A) → b ≡ true → o ≡ true → v ≡ Some x → cond (b && o) (option_map f v) None ≡ Some (f x)
+if_both b o f v x p q r = rw (p, q, r) refl
+
+in_order : (cs : List Column) (row : List Value) → in_schema_order cs (column_names cs) row ≡ row
+in_order cs row = rw (stands_so cs) refl
+
+-- the row is read again
+pub row_is_read : (text : List ℕ) (layout : Layout) (at : ℕ) (row : List Value) → is_order layout.columns (column_names layout.columns) ≡ true → RowStands text layout.columns at row → row_of text at (column_names layout.columns) layout ≡ Some row
+row_is_read text layout at row order s =
+    let own = order_is_own layout.columns order in
+    let values : values_of text (columns_by layout.columns (column_names layout.columns)) (literals_at text at) ≡ Some row = ap (λ z. values_of text z (literals_at text at)) own ∙ s.values in
+    if_both (has_bracket text at) (is_order layout.columns (column_names layout.columns)) (in_schema_order layout.columns (column_names layout.columns)) (values_of text (columns_by layout.columns (column_names layout.columns)) (literals_at text at)) row s.bracket order values
+    ∙ ap Some (in_order layout.columns row)
+
+-- columns in the order of a table, with no row so far
+abbrev ordered : List Column → Gathered
+ordered cs = record { columns = cs; is_new = true; places = []; orders = []; fault = None }
+
+head_gathered : (text table : List ℕ) (cs : List Column) (at : ℕ) → is_order cs (column_names cs) ≡ true → name_of text (token_at (name_at at) token.Quoted (quoted table)) ≡ table
+    → step text table cs nothing (head_pieces text at table) ≡ ordered cs
+head_gathered text table [] at order named =
+    let same : same_name (name_of text (token_at (name_at at) token.Quoted (quoted table))) table ≡ true = ap (λ z. same_name z table) named ∙ same_itself table in
+    rw same refl
+head_gathered text table (c ∷ cs) at order named =
+    let own = order_is_own (c ∷ cs) order in
+    let same : same_name (name_of text (token_at (name_at at) token.Quoted (quoted table))) table ≡ true = ap (λ z. same_name z table) named ∙ same_itself table in
+    rw same (ap ordered own)
+
+-- the order of a written table's rows
+abbrev pub own_order : ℕ → List Column → InsertOrder
+own_order at cs = record { first = at; order = column_names cs }
+
+-- the places of a line's rows, of which the first stands at the place
+abbrev pub row_places : ℕ → List Column → List Value → List (List Value) → List ℕ
+row_places at cs row rows = at ∷ further_places (closed_at at cs row + 1) cs rows
+
+pub line_gathered : (text table : List ℕ) (all : List Column) (at : ℕ) (row : List Value) (rows : List (List Value)) → is_order all (column_names all) ≡ true → name_of text (token_at (name_at at) token.Quoted (quoted table)) ≡ table
+    → RowStands text all (rows_at at table) row → FurtherStand text (closed_at (rows_at at table) all row + 1) all rows
+    → gathered text table all (insert_units text at table all row rows) ≡ gathered_as all (row_places (rows_at at table) all row rows) (own_order (rows_at at table) all ∷ [])
+line_gathered text table all at row rows order named first rest =
+    let place : ℕ = rows_at at table in
+    let end : KeptPiece = end_piece text (line_end_at place all row rows) in
+    let behind : List (List KeptPiece) = further_units text (closed_at place all row + 1) all rows ++ (end ∷ []) ∷ [] in
+    ap (λ g. fold (step text table all) g (row_pieces text place all row ∷ behind)) (head_gathered text table all at order named)
+    ∙ ap (λ g. fold (step text table all) g behind) (row_gathered text table all all (ordered all) place row refl (no_fault text all place row first))
+    ∙ further_gathered text table all all (closed_at place all row + 1) rows (place ∷ []) (own_order place all ∷ []) end rest refl

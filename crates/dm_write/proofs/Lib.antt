@@ -19,3 +19,6 @@ pub mod RowValues
 pub mod DumpSentence
 pub mod DumpPieces
 pub mod DumpRows
+pub mod DumpStanding
+pub mod DumpReading
+pub mod DumpBack

@@ -1,0 +1,157 @@
+-- A dump that is written is read back.
+use Rattle.std.proofs.Common.{◌≡◌, ◌==◌, ◌||◌, ◌&&◌, ◌+◌, ◌-◌, ◌<◌, ◌^◌, ℕ, Bool, true, false, cond, ltb, leb, List, [], ◌∷◌, ◌++◌, map, fold, take, drop, length, Option, Some, None, Result, Ok, Err, refl, sym, ap, ◌∙◌, subst, arith, append_assoc, append-nil, take_at}
+use Rattle.std.specs.Prelude.{⊤, codes}
+use Rattle.std.specs.Option.{option_map, option_or}
+use Rattle.std.specs.List.{list_all}
+use Rattle.std.proofs.lemmas.Bool.Decides.{nat_tests}
+use Rattle.std.proofs.lemmas.List.{map-append}
+use Rattle.dm_value.specs.declared.value.Value.{Value}
+use Rattle.dm_schema.specs.declared.column.Column.{Column}
+use Rattle.dm_schema.specs.Layout.{Layout}
+use Rattle.dm_schema.specs.Names.{column_names}
+use Rattle.dm_text.specs.Names.{quoted}
+use Rattle.dm_lex.specs.declared.token.TokenKind.TheVariants as token
+use Rattle.dm_grammar.specs.Grammar.{Letter}
+use Rattle.dm_grammar.specs.Sentence.{roles_of}
+use Rattle.dm_syntax.specs.declared.fault.DdlFault.{DdlFault}
+use Rattle.dm_syntax.specs.declared.parsing.Extent.TheVariants as extent
+use Rattle.dm_syntax.specs.Names.{name_of}
+use Rattle.dm_syntax.specs.Parsing.{Says}
+use Rattle.dm_syntax.specs.Pieces.{parts}
+use Rattle.dm_ddl.specs.declared.statements.Statement.{Statement}
+use Rattle.dm_ddl.specs.Statements.{statement_unless}
+use Rattle.dm_dump.specs.declared.role.TheConstants as role
+use Rattle.dm_dump.specs.declared.fault.Fault.{Fault}
+use Rattle.dm_dump.specs.declared.fault.DumpFault.{DumpFault}
+use Rattle.dm_dump.specs.declared.inserts.Inserts.{Inserts}
+use Rattle.dm_dump.specs.declared.outline.Span.{Span}
+use Rattle.dm_dump.specs.declared.outline.Outline.{Outline}
+use Rattle.dm_dump.specs.declared.dump.Dump.{Dump}
+use Rattle.dm_dump.specs.declared.dump.Created.{Created}
+use Rattle.dm_dump.specs.Reading.{Contents, HasContents}
+use Rattle.dm_dump.specs.Units.{begins_unit, units}
+use Rattle.dm_dump.specs.Outlines.{least, create_place, second_place, second_create, insert_place, create_span, outline_of}
+use Rattle.dm_dump.specs.Rows.{gathered, unless_inserts, rows_of, HasRows}
+use Rattle.dm_dump.specs.Dumps.{bytes_in, early_insert, created_by, dump_of, DumpBy, DumpWith, IsDump}
+use Rattle.dm_dump.specs.Orders.{is_order}
+use Rattle.dm_reread.specs.Parts.{Part, Blank, text_of, tokens_from, spelled, spelling_of, mark, word, name_part, is_spelled, default_has_bytes}
+use Rattle.dm_reread.proofs.Laws.{text_of_both, text_has_tokens, tokens_at_are_spelled, name_token_is_read}
+use Rattle.dm_write.specs.Dumps.{dump_text}
+use Rattle.dm_write.specs.ReadBack.{StandAt, orders_from, HasInserts, IsReadBack}
+use Rattle.dm_write.proofs.Placed.{Stands, past, past_all, token_at, spelling_at}
+use Rattle.dm_write.proofs.DumpSentence.{is_inner, fills, filled, RowsAreRead, rows_letters, dump_letters, end_letter, says_dump}
+use Rattle.dm_write.proofs.StatementParts.{table_parts, statement_parts, statement_is_spelled}
+use Rattle.dm_write.proofs.Restated.{IsWrittenLayout, the_create, says_the_create}
+use Rattle.dm_write.proofs.DumpPieces.{KeptPiece, piece, kept_of, passed_over, line_end, insert_parts, name_at, rows_at, closed_at, further_places, end_piece, insert_pieces, insert_kept, row_pieces}
+use Rattle.dm_write.proofs.DumpRows.{insert_units, insert_split, further_units, RowStands, FurtherStand, row_is_read, row_places, own_order, gathered_as, line_gathered}
+use Rattle.dm_write.proofs.DumpStanding.{rows_parts, dump_parts, dump_written, HaveBytes, dump_spelled, line_stands}
+use Rattle.dm_write.proofs.DumpReading.{dump_kinds, contents_are}
+
+-- The pieces and units.
+
+-- where the CREATE's `;` stands
+abbrev pub create_end : List ℕ → Layout → ℕ
+create_end table layout = 0 + 6 + 1 + 5 + length (text_of (table_parts table layout))
+
+-- where the line of rows begins
+abbrev pub line_at : List ℕ → Layout → ℕ
+line_at table layout = create_end table layout + 1 + 1
+
+abbrev pub line_pieces : List ℕ → ℕ → List ℕ → List Column → List (List Value) → List KeptPiece
+line_pieces text at table cs [] = []
+line_pieces text at table cs (row ∷ rows) = insert_pieces text at table cs row rows
+
+abbrev pub line_units : List ℕ → ℕ → List ℕ → List Column → List (List Value) → List (List KeptPiece)
+line_units text at table cs [] = []
+line_units text at table cs (row ∷ rows) = insert_units text at table cs row rows
+
+abbrev create_pieces : List ℕ → List KeptPiece
+create_pieces text = piece text (token_at 0 token.Word (codes "CREATE")) role.CREATE ∷ piece text (token_at (0 + 6 + 1) token.Word (codes "TABLE")) role.TABLE ∷ []
+
+abbrev dump_pieces : List ℕ → List ℕ → Layout → List (List Value) → List KeptPiece
+dump_pieces text table layout rows = create_pieces text ++ end_piece text (create_end table layout) ∷ line_pieces text (line_at table layout) table layout.columns rows
+
+line_kept : (text : List ℕ) (at : ℕ) (table : List ℕ) (cs : List Column) (rows : List (List Value)) → kept_of text (tokens_from at (rows_parts table cs rows)) (roles_of (rows_letters cs rows)) ≡ line_pieces text at table cs rows
+line_kept text at table cs [] = refl
+line_kept text at table cs (row ∷ rows) = insert_kept text at table cs row rows
+
+dump_kept : (text table : List ℕ) (layout : Layout) (rows : List (List Value)) → kept_of text (tokens_from 0 (dump_parts table layout rows)) (roles_of (dump_letters (spelled (table_parts table layout)) layout.columns rows)) ≡ dump_pieces text table layout rows
+dump_kept text table layout rows =
+    let rest : List Part = mark 59 ∷ Blank 10 ∷ rows_parts table layout.columns rows in
+    ap (λ z. kept_of text (tokens_from 0 (dump_parts table layout rows)) (role.CREATE ∷ role.TABLE ∷ z)) (map-append (λ letter. letter.1) (filled (table_parts table layout)) (end_letter ∷ rows_letters layout.columns rows))
+    ∙ ap (λ z. create_pieces text ++ z) (passed_over text (0 + 6 + 1 + 5) (table_parts table layout) rest (role.END ∷ roles_of (rows_letters layout.columns rows)))
+    ∙ ap (λ z. create_pieces text ++ end_piece text (create_end table layout) ∷ z) (line_kept text (line_at table layout) table layout.columns rows)
+
+abbrev dump_units : List ℕ → List ℕ → Layout → List (List Value) → List (List KeptPiece)
+dump_units text table layout rows = create_pieces text ∷ (end_piece text (create_end table layout) ∷ []) ∷ line_units text (line_at table layout) table layout.columns rows
+
+dump_split : (text table : List ℕ) (layout : Layout) (rows : List (List Value)) → units (dump_pieces text table layout rows) ≡ dump_units text table layout rows
+dump_split text table layout [] = refl
+dump_split text table layout (row ∷ rows) =
+    ap (λ z. create_pieces text ∷ (end_piece text (create_end table layout) ∷ []) ∷ z) (insert_split text (line_at table layout) table layout.columns row rows)
+
+-- The outline.
+
+further_no_create : (text : List ℕ) (at : ℕ) (cs : List Column) (rows : List (List Value)) (end : KeptPiece) → create_place ((end ∷ []) ∷ []) ≡ None → create_place (further_units text at cs rows ++ (end ∷ []) ∷ []) ≡ None
+further_no_create text at cs [] end h = h
+further_no_create text at cs (row ∷ rows) end h = further_no_create text (closed_at (at + 1) cs row + 1) cs rows end h
+
+no_second : (text table : List ℕ) (layout : Layout) (rows : List (List Value)) → second_place (dump_units text table layout rows) ≡ None
+no_second text table layout [] = refl
+no_second text table layout (row ∷ rows) = further_no_create text (closed_at (rows_at (line_at table layout) table) layout.columns row + 1) layout.columns rows _ refl
+
+abbrev first_line : ℕ → List (List Value) → Option ℕ
+first_line at [] = None
+first_line at (row ∷ rows) = Some at
+
+abbrev the_span : List ℕ → Layout → Span
+the_span table layout = record { from = 0; to = create_end table layout }
+
+abbrev the_outline : List ℕ → Layout → List (List Value) → Outline
+the_outline table layout rows = record { create = Some (the_span table layout); first_insert = first_line (line_at table layout) rows; fault = None }
+
+insert_is : (text table : List ℕ) (layout : Layout) (rows : List (List Value)) → insert_place (dump_units text table layout rows) ≡ first_line (line_at table layout) rows
+insert_is text table layout [] = refl
+insert_is text table layout (row ∷ rows) = refl
+
+abbrev the_contents : List ℕ → List ℕ → Layout → List (List Value) → Contents
+the_contents text table layout rows = record { pieces = dump_pieces text table layout rows; ending = None }
+
+outline_is : (text table : List ℕ) (layout : Layout) (rows : List (List Value)) → outline_of text (the_contents text table layout rows) ≡ the_outline table layout rows
+outline_is text table layout rows =
+    let split = dump_split text table layout rows in
+    (λ i. let one : Outline = record { create = create_span text (split i); first_insert = insert_place (split i); fault = least (second_create (second_place (split i))) None } in one)
+    ∙ (λ i. let one : Outline = record { create = Some (the_span table layout); first_insert = insert_is text table layout rows i; fault = least (second_create (no_second text table layout rows i)) None } in one)
+
+not_early : (table : List ℕ) (layout : Layout) (rows : List (List Value)) → early_insert (the_outline table layout rows) ≡ None
+not_early table layout [] = refl
+not_early table layout (row ∷ rows) = let later : ltb 0 (line_at table layout) ≡ true = search (nat_tests, arith) in rw later refl
+
+-- The statement.
+
+statement_in : (table : List ℕ) (layout : Layout) (rows : List (List Value)) → bytes_in (text_of (dump_parts table layout rows)) (the_span table layout) ≡ text_of (statement_parts table layout)
+statement_in table layout rows =
+    let rest : List Part = mark 59 ∷ Blank 10 ∷ rows_parts table layout.columns rows in
+    let long : create_end table layout - 0 ≡ length (text_of (statement_parts table layout)) = omega arith in
+    ap (λ z. take (create_end table layout - 0) z) (text_of_both (statement_parts table layout) rest)
+    ∙ take_at (text_of (statement_parts table layout)) (text_of rest) (create_end table layout - 0) (sym long)
+
+abbrev the_table : List ℕ → Layout → Created
+the_table table layout = record { table = table; schema = layout }
+
+-- What holds of all that is written.
+pub record IsWrittenDump (layout : Layout) (rows : List (List Value)) : Type 0 where
+  pub layout : IsWrittenLayout layout
+  pub defaults : list_all default_has_bytes layout.columns ≡ true
+  pub order : is_order layout.columns (column_names layout.columns) ≡ true
+  pub rows : RowsAreRead layout.columns rows
+  pub bytes : HaveBytes rows
+
+created_is : (text table : List ℕ) (layout : Layout) (created : Option Created) (said : Result Statement DdlFault) → IsWrittenLayout layout → list_all default_has_bytes layout.columns ≡ true → text ≡ text_of (statement_parts table layout)
+    → Says extent.Whole (statement_unless text) text said → created ≡ created_by said → created ≡ Some (the_table table layout)
+created_is text table layout created said w defaults is says from =
+    let spells = statement_is_spelled table layout defaults in
+    let there = subst (λ (t : List ℕ). Says extent.Whole (statement_unless t) t said) is says in
+    let one = says_the_create (text_of (statement_parts table layout)) table layout (tokens_from 0 (statement_parts table layout)) said w (text_has_tokens (statement_parts table layout) spells)
+    (tokens_at_are_spelled (text_of (statement_parts table layout)) 0 (statement_parts table layout) [] (sym (append-nil (text_of (statement_parts table layout))))) there in
+    from ∙ ap created_by one
