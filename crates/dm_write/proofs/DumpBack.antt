@@ -45,6 +45,7 @@ use Rattle.dm_write.proofs.Restated.{IsWrittenLayout, the_create, says_the_creat
 use Rattle.dm_write.proofs.DumpPieces.{KeptPiece, piece, kept_of, passed_over, line_end, insert_parts, name_at, rows_at, closed_at, further_places, end_piece, insert_pieces, insert_kept, row_pieces}
 use Rattle.dm_write.proofs.DumpRows.{insert_units, insert_split, further_units, RowStands, FurtherStand, row_is_read, row_places, own_order, gathered_as, line_gathered}
 use Rattle.dm_write.proofs.DumpStanding.{rows_parts, dump_parts, dump_written, HaveBytes, dump_spelled, line_stands}
+use Rattle.dm_write.proofs.Inner.{table_inner}
 use Rattle.dm_write.proofs.DumpReading.{dump_kinds, contents_are}
 
 -- The pieces and units.
@@ -139,13 +140,13 @@ statement_in table layout rows =
 abbrev the_table : List ℕ → Layout → Created
 the_table table layout = record { table = table; schema = layout }
 
--- What holds of all that is written.
-pub record IsWrittenDump (layout : Layout) (rows : List (List Value)) : Type 0 where
-  pub layout : IsWrittenLayout layout
-  pub defaults : list_all default_has_bytes layout.columns ≡ true
-  pub order : is_order layout.columns (column_names layout.columns) ≡ true
-  pub rows : RowsAreRead layout.columns rows
-  pub bytes : HaveBytes rows
+-- what holds of a schema and rows that are written and read again
+pub record IsWrittenDump (schema : Layout) (values : List (List Value)) : Type 0 where
+  pub layout : IsWrittenLayout schema
+  pub defaults : list_all default_has_bytes schema.columns ≡ true
+  pub order : is_order schema.columns (column_names schema.columns) ≡ true
+  pub rows : RowsAreRead schema.columns values
+  pub bytes : HaveBytes values
 
 created_is : (text table : List ℕ) (layout : Layout) (created : Option Created) (said : Result Statement DdlFault) → IsWrittenLayout layout → list_all default_has_bytes layout.columns ≡ true → text ≡ text_of (statement_parts table layout)
     → Says extent.Whole (statement_unless text) text said → created ≡ created_by said → created ≡ Some (the_table table layout)
@@ -155,3 +156,94 @@ created_is text table layout created said w defaults is says from =
     let one = says_the_create (text_of (statement_parts table layout)) table layout (tokens_from 0 (statement_parts table layout)) said w (text_has_tokens (statement_parts table layout) spells)
     (tokens_at_are_spelled (text_of (statement_parts table layout)) 0 (statement_parts table layout) [] (sym (append-nil (text_of (statement_parts table layout))))) there in
     from ∙ ap created_by one
+
+-- The rows.
+
+named_at : (text table : List ℕ) (cs : List Column) (at : ℕ) (row : List Value) (rows : List (List Value)) → Stands text at (insert_parts table cs row rows) → name_of text (token_at (name_at at) token.Quoted (quoted table)) ≡ table
+named_at text table cs at row rows s =
+    let named = past text (at + 6 + 1 + 4) (Blank 32) _ (past text (at + 6 + 1) (word (codes "INTO")) _ (past text (at + 6) (Blank 32) _ (past text at (word (codes "INSERT")) _ s))) in
+    name_token_is_read text (token_at (name_at at) token.Quoted (quoted table)) table (spelling_at text (name_at at) token.Quoted (quoted table) _ named)
+
+abbrev line_places : ℕ → List ℕ → List Column → List (List Value) → List ℕ
+line_places at table cs [] = []
+line_places at table cs (row ∷ rows) = row_places (rows_at at table) cs row rows
+
+abbrev pub the_inserts : ℕ → List ℕ → Layout → List (List Value) → Inserts
+the_inserts at table layout rows = record { places = line_places at table layout.columns rows; orders = orders_from layout (line_places at table layout.columns rows) }
+
+rows_gathered : (text table : List ℕ) (layout : Layout) (at : ℕ) (rows : List (List Value)) → ltb (length text) (2 ^ 32) ≡ true → is_order layout.columns (column_names layout.columns) ≡ true → RowsAreRead layout.columns rows → Stands text at (rows_parts table layout.columns rows)
+    → unless_inserts (gathered text table layout.columns (line_units text at table layout.columns rows)) None ≡ Ok (the_inserts at table layout rows)
+rows_gathered text table layout at [] short order read s = refl
+rows_gathered text table layout at (row ∷ rows) short order read s =
+    let stands = line_stands text table layout.columns at row rows short read.0 read.1 s in
+    ap (λ g. unless_inserts g None) (line_gathered text table layout.columns at row rows order (named_at text table layout.columns at row rows s) stands.0 stands.1)
+
+further_at : (text : List ℕ) (layout : Layout) (at : ℕ) (rows : List (List Value)) → is_order layout.columns (column_names layout.columns) ≡ true → FurtherStand text at layout.columns rows → StandAt text layout (further_places at layout.columns rows) rows
+further_at text layout at [] order stand = tt
+further_at text layout at (row ∷ rows) order stand = (row_is_read text layout (at + 1) row order stand.0, further_at text layout (closed_at (at + 1) layout.columns row + 1) rows order stand.1)
+
+rows_at_places : (text table : List ℕ) (layout : Layout) (at : ℕ) (rows : List (List Value)) → ltb (length text) (2 ^ 32) ≡ true → is_order layout.columns (column_names layout.columns) ≡ true → RowsAreRead layout.columns rows → Stands text at (rows_parts table layout.columns rows)
+    → StandAt text layout (line_places at table layout.columns rows) rows
+rows_at_places text table layout at [] short order read s = tt
+rows_at_places text table layout at (row ∷ rows) short order read s =
+    let stands = line_stands text table layout.columns at row rows short read.0 read.1 s in
+    (row_is_read text layout (rows_at at table) row order stands.0, further_at text layout (closed_at (rows_at at table) layout.columns row + 1) rows order stands.1)
+
+-- The whole.
+
+contents_known : (table : List ℕ) (layout : Layout) (rows : List (List Value)) (all : Contents) → IsWrittenDump layout rows → HasContents (text_of (dump_parts table layout rows)) all → all ≡ the_contents (text_of (dump_parts table layout rows)) table layout rows
+contents_known table layout rows all w has =
+    let text : List ℕ = text_of (dump_parts table layout rows) in
+    contents_are (dump_parts table layout rows) (dump_letters (spelled (table_parts table layout)) layout.columns rows) all (dump_spelled table layout rows w.defaults w.bytes) (dump_kinds table layout rows)
+    (says_dump (spelled (table_parts table layout)) layout.columns rows (table_inner table layout w.layout.read) w.rows) has
+    ∙ ap (λ z. let one : Contents = record { pieces = z; ending = None } in one) (dump_kept text table layout rows)
+
+line_stand : (table : List ℕ) (layout : Layout) (rows : List (List Value)) → IsWrittenDump layout rows → Stands (text_of (dump_parts table layout rows)) (line_at table layout) (rows_parts table layout.columns rows)
+line_stand table layout rows w =
+    let text : List ℕ = text_of (dump_parts table layout rows) in
+    let rest : List Part = rows_parts table layout.columns rows in
+    let start : Stands text 0 (dump_parts table layout rows) = record { here = refl; spells = dump_spelled table layout rows w.defaults w.bytes } in
+    let long : 0 + length (text_of (statement_parts table layout)) ≡ create_end table layout = omega arith in
+    let end = subst (λ (n : ℕ). Stands text n (mark 59 ∷ Blank 10 ∷ rest)) long (past_all text 0 (statement_parts table layout) (mark 59 ∷ Blank 10 ∷ rest) start) in
+    past text (create_end table layout + 1) (Blank 10) rest (past text (create_end table layout) (mark 59) (Blank 10 ∷ rest) end)
+
+rows_known : (table : List ℕ) (layout : Layout) (rows : List (List Value)) → IsWrittenDump layout rows → ltb (length (text_of (dump_parts table layout rows))) (2 ^ 32) ≡ true
+    → rows_of (text_of (dump_parts table layout rows)) table layout (the_contents (text_of (dump_parts table layout rows)) table layout rows) ≡ Ok (the_inserts (line_at table layout) table layout rows)
+rows_known table layout rows w short =
+    let text : List ℕ = text_of (dump_parts table layout rows) in
+    let split = dump_split text table layout rows in
+    (λ i. unless_inserts (gathered text table layout.columns (split i)) (least (second_create (second_place (split i))) None))
+    ∙ (λ i. unless_inserts (gathered text table layout.columns (dump_units text table layout rows)) (least (second_create (no_second text table layout rows i)) None))
+    ∙ rows_gathered text table layout (line_at table layout) rows short w.order w.rows (line_stand table layout rows w)
+
+abbrev the_answer : List ℕ → Layout → List (List Value) → Result Dump DumpFault
+the_answer table layout rows = Ok (record { table = table; schema = layout; inserts = the_inserts (line_at table layout) table layout rows })
+
+table_known : (table : List ℕ) (layout : Layout) (rows : List (List Value)) (created : Option Created) (answer : Result Dump DumpFault) → IsWrittenDump layout rows → ltb (length (text_of (dump_parts table layout rows))) (2 ^ 32) ≡ true
+    → created ≡ Some (the_table table layout) → DumpBy (text_of (dump_parts table layout rows)) (the_outline table layout rows) (the_span table layout) created answer → answer ≡ the_answer table layout rows
+table_known table layout rows created answer w short known says =
+    let text : List ℕ = text_of (dump_parts table layout rows) in
+    let there = subst (λ (c : Option Created). DumpBy text (the_outline table layout rows) (the_span table layout) c answer) known says in
+    by there.0 there.1 there.2
+  where
+    by : (found : Result Inserts DumpFault) → HasRows (text_of (dump_parts table layout rows)) table layout found → answer ≡ dump_of (early_insert (the_outline table layout rows)) (the_table table layout) found → answer ≡ the_answer table layout rows
+    by found (all, has, is) from =
+        let read : found ≡ Ok (the_inserts (line_at table layout) table layout rows) =
+        is ∙ ap (rows_of (text_of (dump_parts table layout rows)) table layout) (contents_known table layout rows all w has) ∙ rows_known table layout rows w short in
+        from ∙ (λ i. dump_of (not_early table layout rows i) (the_table table layout) (read i))
+
+answer_known : (table : List ℕ) (layout : Layout) (rows : List (List Value)) (answer : Result Dump DumpFault) → IsWrittenDump layout rows → ltb (length (text_of (dump_parts table layout rows))) (2 ^ 32) ≡ true
+    → IsDump (text_of (dump_parts table layout rows)) answer → answer ≡ the_answer table layout rows
+answer_known table layout rows answer w short (outline, (all, has, is), dumped) =
+    let text : List ℕ = text_of (dump_parts table layout rows) in
+    let known : outline ≡ the_outline table layout rows = is ∙ ap (outline_of text) (contents_known table layout rows all w has) ∙ outline_is text table layout rows in
+    let there = subst (λ (o : Outline). DumpWith text o o.create answer) known dumped in
+    table_known table layout rows there.0 answer w short
+    (created_is (bytes_in text (the_span table layout)) table layout there.0 there.1.0 w.layout w.defaults (statement_in table layout rows) there.1.1 there.1.2) there.2
+
+pub parts_read_back : (table : List ℕ) (layout : Layout) (rows : List (List Value)) → IsWrittenDump layout rows → ltb (length (text_of (dump_parts table layout rows))) (2 ^ 32) ≡ true → (answer : Result Dump DumpFault)
+    → IsDump (text_of (dump_parts table layout rows)) answer
+    → (inserts : Inserts) × (answer ≡ Ok (record { table = table; schema = layout; inserts = inserts })) × HasInserts (text_of (dump_parts table layout rows)) layout rows inserts
+parts_read_back table layout rows w short answer says =
+    (the_inserts (line_at table layout) table layout rows, answer_known table layout rows answer w short says,
+    (rows_at_places (text_of (dump_parts table layout rows)) table layout (line_at table layout) rows short w.order w.rows (line_stand table layout rows w), refl))

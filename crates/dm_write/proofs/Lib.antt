@@ -21,4 +21,5 @@ pub mod DumpPieces
 pub mod DumpRows
 pub mod DumpStanding
 pub mod DumpReading
+pub mod Inner
 pub mod DumpBack
