@@ -30,6 +30,7 @@ use Rattle.dm_ddl.specs.Bounds.{held, is_in_range}
 use Rattle.dm_reread.specs.Parts.{Part, Spelling, spelled, value_parts}
 use Rattle.dm_reread.specs.Read.{IsRead, Null, Literal, Minus}
 use Rattle.dm_reread.proofs.Laws.{name_is_read, number_is_read}
+use Rattle.dm_write.specs.Lengths.{has_length}
 use Rattle.dm_write.proofs.Splitting.{either_false, any_both, all_both, find_both, find_none, parts_skip, parts_none, part_last}
 use Rattle.dm_write.proofs.StatementTokens.{terminal_seen}
 use Rattle.dm_write.proofs.Signs as sign
@@ -203,22 +204,6 @@ digits_kind d name word k xs digits small behind is = by (digits == 0) refl wher
   by : (b : Bool) → (digits == 0) ≡ b → kind_of (head_of d name (all_shown (sign.word word role.TYPE ∷ cond b [] (sign.in_brackets digits role.FRACTION)) ++ xs)) ≡ k digits
   by true e = is (number role.FRACTION 0 (head_of d name (shown (sign.word word role.TYPE) ∷ xs))) _ _ _ _ _ ∙ ap k (ap (λ o. option_map_or number_seen o 0) none ∙ sym (eqb-true digits 0 e))
   by false e = is (number_seen (shown (sign.number digits role.FRACTION))) _ _ _ _ _ ∙ sized k digits role.FRACTION small
-
--- the length of a VARCHAR or VARBINARY has 16 bits
-abbrev pub has_length : Kind → Bool
-has_length (kind.Signed size) = true
-has_length (kind.Unsigned size) = true
-has_length (kind.Decimal precision scale) = true
-has_length (kind.Char most) = true
-has_length (kind.Varchar most) = leb most 65535
-has_length (kind.Text prefix) = true
-has_length (kind.Binary size) = true
-has_length (kind.Varbinary most) = leb most 65535
-has_length (kind.Blob prefix) = true
-has_length kind.Date = true
-has_length kind.Year = true
-has_length (kind.Datetime digits) = true
-has_length (kind.Timestamp digits) = true
 
 at_most : (n most : ℕ) → leb n most ≡ true → most < 65536 → n < 65536
 at_most n most h small = let le = leb-true n most h in omega (arith, le, small)

@@ -23,3 +23,4 @@ pub mod DumpStanding
 pub mod DumpReading
 pub mod Inner
 pub mod DumpBack
+pub mod BackAgain

@@ -16,12 +16,13 @@ use Rattle.dm_text.specs.Kinds.{fraction_digits}
 use Rattle.dm_syntax.specs.declared.role.TheConstants as role
 use Rattle.dm_ddl.specs.Bounds.{is_in_range}
 use Rattle.dm_reread.specs.Parts.{Spelling, spelled, value_parts}
+use Rattle.dm_write.specs.Lengths.{has_length}
 use Rattle.dm_write.proofs.Splitting.{any_both}
 use Rattle.dm_write.proofs.Signs as sign
 use Rattle.dm_write.proofs.Signs.{Sign}
 use Rattle.dm_write.proofs.Seen.{Seen, shown, number_seen, number}
 use Rattle.dm_write.proofs.Meaning.{excess, has_excess}
-use Rattle.dm_write.proofs.ColumnItems.{all_shown, only, small_number, has_length, head_of, column_parts, IsWritten}
+use Rattle.dm_write.proofs.ColumnItems.{all_shown, only, small_number, head_of, column_parts, IsWritten}
 use Rattle.dm_write.proofs.KeyItems.{is_filler, names_before, primary_item, unique_item}
 
 abbrev AreIn : ℕ → List Sign → Type 0
