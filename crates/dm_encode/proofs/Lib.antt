@@ -1,5 +1,4 @@
 pub mod Digits
-pub mod Dumping
 pub mod Taking
 pub mod Bodies
 pub mod Bits

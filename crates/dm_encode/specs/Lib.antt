@@ -6,4 +6,3 @@ pub mod Values
 pub mod Rows
 pub mod Events
 pub mod ReadBack
-pub mod Dumps

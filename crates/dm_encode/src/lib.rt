@@ -3,7 +3,6 @@
 
 mod bitmaps;
 mod decimals;
-mod dumps;
 mod events;
 mod integers;
 mod kinds;
@@ -13,7 +12,6 @@ mod rows;
 mod times;
 mod values;
 
-pub use dumps::write_dump;
 pub use events::{write_format, write_query};
 pub use maps::write_map;
 pub use rows::write_rows;

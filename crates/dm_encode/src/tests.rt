@@ -10,9 +10,9 @@ use crate::maps::map_body;
 use crate::numbers::push_lenenc;
 use crate::rows::rows_body;
 use crate::values::push_value;
-use crate::{write_dump, write_format, write_map, write_query, write_rows};
+use crate::{write_format, write_map, write_query, write_rows};
 use dm_schema::{Column, DefaultRule, Kind, Names, RowChange, Schema, SchemaFault, fits};
-use dm_value::{Day, Dec, Moment, Name, Row, Rows, Stamp, Value};
+use dm_value::{Day, Dec, Moment, Name, Row, Stamp, Value};
 use std::alloc::{AllocError, Global};
 use std::test::Fail;
 
@@ -285,52 +285,5 @@ fn writes_rows(rt: HostRuntime) -> Result<(), Fail> {
         two.as_slice(),
         b"\0\0\0\0\x1e\0\0\0\0\x24\0\0\0\0\0\0\0\0\0\x05\0\0\0\0\0\x01\0\x02\0\x02\x03\x02\x02\0\0\0".as_slice()
     );
-    Ok(())
-}
-
-/// Whether each value of each row fits its column.
-fn rows_fit(rows: &[Row], columns: &[Column]) -> bool
-    requires { IsTrue (list_all is_column columns.now) }
-    ensures { result ≡ list_all (λ row. pointwise fits row columns.now) rows.now }
-{
-    match rows {
-        [] => true,
-        [row, rows @ ..] => row_fits(row.as_slice(), columns) && rows_fit(rows, columns),
-    }
-}
-
-fn dump_bytes(alloc: Global, schema: &Schema, rows: &Rows) -> Result<Vec<u8>, Fail> {
-    if !rows_fit(rows.as_slice(), schema.columns()) {
-        return Err("no rows of the schema")?;
-    }
-    let table = name(alloc, "t")?;
-    Ok(write_dump(alloc, &table, schema, rows)?)
-}
-
-fn two_rows(alloc: Global) -> Result<Rows, AllocError> {
-    let x = Value::Bytes(dm_schema::Bytes::new([b'x'].to_vec(alloc)?));
-    let first = row(alloc, 1, x)?;
-    let second = row(alloc, 2, Value::Null)?;
-    Ok(Rows::new(vec![in alloc; first, second]?))
-}
-
-#[test]
-fn writes_a_dump(rt: HostRuntime) -> Result<(), Fail> {
-    let alloc = rt.alloc();
-    let schema = table(alloc)?.map_err(|_| "no schema")?;
-    let text = dump_bytes(alloc, &schema, &two_rows(alloc)?)?;
-    let want = b"CREATE TABLE `t` (`id` INT NOT NULL, `v` VARCHAR(20) NULL, PRIMARY KEY (`id`));\n\
-        INSERT INTO `t` VALUES (1,'x'),(2,NULL);\n";
-    assert_eq!(rt; text.as_slice(), want.as_slice());
-    Ok(())
-}
-
-#[test]
-fn a_dump_without_rows_has_one_line(rt: HostRuntime) -> Result<(), Fail> {
-    let alloc = rt.alloc();
-    let schema = table(alloc)?.map_err(|_| "no schema")?;
-    let text = dump_bytes(alloc, &schema, &Rows::new(Vec::new(alloc)))?;
-    let want = b"CREATE TABLE `t` (`id` INT NOT NULL, `v` VARCHAR(20) NULL, PRIMARY KEY (`id`));\n";
-    assert_eq!(rt; text.as_slice(), want.as_slice());
     Ok(())
 }

@@ -1,7 +1,7 @@
 use Rattle.std.specs.Prelude.{codes}
 use Rattle.dm_text.proofs.Joins.{five_joined}
-use Rattle.dm_encode.specs.Dumps.{tuples_text}
-use Rattle.dm_encode.proofs.dumps.push_insert.Goals as goal
+use Rattle.dm_write.specs.Dumps.{tuples_text}
+use Rattle.dm_write.proofs.dumps.push_insert.Goals as goal
 
 pub returns : goal.returns
 returns c =

@@ -2,7 +2,7 @@ use Rattle.std.proofs.Common.{arith}
 use Rattle.std.proofs.lemmas.Grind.{common_steps}
 use Rattle.dm_text.specs.Values.{tuple_text}
 use Rattle.dm_text.proofs.Commas.{with_commas-map}
-use Rattle.dm_encode.proofs.dumps.push_tuples.Goals as goal
+use Rattle.dm_write.proofs.dumps.push_tuples.Goals as goal
 
 pub returns-in_ok-push_tuple-in-len1-up : goal.returns-in_ok-push_tuple-in-len1-up
 returns-in_ok-push_tuple-in-len1-up c =

@@ -5,7 +5,7 @@ use Rattle.dm_schema.specs.declared.column.Column.{Column}
 use Rattle.dm_schema.specs.Layout.{Layout}
 use Rattle.dm_text.specs.Names.{quoted}
 use Rattle.dm_text.specs.Columns.{create_text}
-use Rattle.dm_encode.specs.Dumps.{rows_text, dump_text}
+use Rattle.dm_write.specs.Dumps.{rows_text, dump_text}
 
 pub dump_joined : (table name again : List ℕ) (layout : Layout) (columns : List Column) (rows slice : List (List Value)) (start first last : List ℕ) → name ≡ quoted table → again ≡ quoted table → columns ≡ layout.columns → slice ≡ rows → start ≡ []
     → first ≡ start ++ create_text name layout → last ≡ first ++ rows_text again columns slice → last ≡ dump_text table layout rows

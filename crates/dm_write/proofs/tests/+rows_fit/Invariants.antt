@@ -1,5 +1,5 @@
 use Rattle.std.proofs.Common.{length}
-use Rattle.dm_encode.proofs.tests.+rows_fit.Given as goal
+use Rattle.dm_write.proofs.tests.+rows_fit.Given as goal
 
 abbrev pub decreases-rows_fit : goal.decreases-rows_fit
 decreases-rows_fit l = length l.rows.now

@@ -1,12 +1,15 @@
-ghost use Rattle.std.specs.Prelude.{◌≡◌, ◌∷◌, ◌++◌, IsTrue, IfOk, OnOk};
+ghost use Rattle.std.specs.Prelude.{◌≡◌, ◌∷◌, ◌++◌, nat_le, IsTrue, IfOk, OnOk};
 ghost use Rattle.std.specs.List.{flat_map, list_all};
 ghost use Rattle.std.specs.Cmp.Lexicographic.{pointwise};
 ghost use Rattle.dm_schema.specs.Fits.{fits};
 ghost use Rattle.dm_text.specs.Names.{quoted};
 ghost use Rattle.dm_text.specs.Values.{tuple_text};
-ghost use Rattle.dm_encode.specs.Dumps.{tuples_text, insert_text, rows_text, dump_text};
+ghost use Rattle.dm_write.specs.Dumps.{tuples_text, insert_text, rows_text, dump_text};
+ghost use Rattle.dm_write.specs.Lengths.{has_length};
+ghost use Rattle.dm_write.specs.ReadBack.{IsReadBack};
 
-use dm_schema::{Column, Schema};
+use dm_reread::{column_bytes, rows_bytes};
+use dm_schema::{Column, Kind, Schema};
 use dm_text::{push_create, push_name, push_tuple};
 use dm_value::{Name, Row, Rows};
 use std::alloc::{AllocError, Global};
@@ -19,13 +22,45 @@ pub fn write_dump(
     rows: &Rows,
 ) -> Result<Vec<u8>, AllocError>
     requires { IsTrue (list_all (λ row. pointwise fits row schema.now.columns) rows.now) }
-    ensures { IfOk result (λ text. text.items ≡ dump_text table.now schema.now rows.now) }
+    ensures value { IfOk result (λ text. text.items ≡ dump_text table.now schema.now rows.now) }
+    ensures read_back { IfOk result (λ text. IsReadBack table.now schema.now rows.now text.items) }
 {
+    let columns = schema.columns();
+    column_lengths(columns);
+    column_bytes(columns);
+    let rows = rows.as_slice();
+    rows_bytes(rows);
     let name = quoted_name(alloc, table)?;
     let mut text = Vec::new(alloc);
     push_create(alloc, &mut text, &name, schema)?;
-    push_rows(alloc, &mut text, &name, schema.columns(), rows.as_slice())?;
+    push_rows(alloc, &mut text, &name, columns, rows)?;
     Ok(text)
+}
+
+/// Says of a number what its type does.
+fn short_length(most: u16)
+    ensures { IsTrue (nat_le most 65535) }
+{
+    let _most = most;
+}
+
+fn kind_length(kind: Kind)
+    ensures { IsTrue (has_length kind) }
+{
+    match kind {
+        Kind::Varchar(most) => short_length(most),
+        Kind::Varbinary(most) => short_length(most),
+        _ => {}
+    }
+}
+
+/// Says that the lengths of columns have 16 bits, which a reader asks for.
+fn column_lengths(columns: &[Column])
+    ensures { IsTrue (list_all (λ c. has_length c.kind) columns.now) }
+{
+    for column in columns {
+        kind_length(column.kind);
+    }
 }
 
 fn quoted_name(alloc: Global, name: &Name) -> Result<Vec<u8>, AllocError>
