@@ -1,3 +1,0 @@
-pub mod Histories
-pub mod Changes
-pub mod Builds
