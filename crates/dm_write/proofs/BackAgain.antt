@@ -57,7 +57,7 @@ pub record Formed (layout : Layout) : Type 0 where
   pub uniques : list_all (λ k. all_columns layout.columns k.columns) layout.uniques ≡ true
   pub fit : list_any is_unfit_default layout.columns ≡ false
 
-formed_parts : (layout : Layout) → is_formed layout ≡ true → Formed layout
+pub formed_parts : (layout : Layout) → is_formed layout ≡ true → Formed layout
 formed_parts layout formed =
     let last = and_parts (list_all is_column layout.columns && list_all is_key layout.uniques && leb (length layout.uniques) 16) (is_none (first_refusal (refusals layout.columns layout.primary layout.uniques))) formed in
     let few = and_parts (list_all is_column layout.columns && list_all is_key layout.uniques) (leb (length layout.uniques) 16) last.0 in
@@ -127,14 +127,14 @@ columns_known (c ∷ cs) columns fit lengths bytes =
 
 -- Rows.
 
-rows_read : (cs : List Column) (rows : List (List Value)) → list_all is_column cs ≡ true → list_all (λ row. pointwise fits row cs) rows ≡ true → HaveBytes rows → RowsAreRead cs rows
+pub rows_read : (cs : List Column) (rows : List (List Value)) → list_all is_column cs ≡ true → list_all (λ row. pointwise fits row cs) rows ≡ true → HaveBytes rows → RowsAreRead cs rows
 rows_read cs [] columns fit bytes = tt
 rows_read cs (row ∷ rows) columns fit bytes =
     let one = and_parts (pointwise fits row cs) (list_all (λ row. pointwise fits row cs) rows) fit in
     let two = and_parts (list_all has_bytes row) (list_all (λ row. list_all has_bytes row) rows) bytes in
     (are_read cs row columns one.0 two.0, rows_read cs rows columns one.1 two.1)
 
-is_written : (layout : Layout) (rows : List (List Value)) → is_formed layout ≡ true → list_all (λ c. has_length c.kind) layout.columns ≡ true → list_all default_has_bytes layout.columns ≡ true
+pub is_written : (layout : Layout) (rows : List (List Value)) → is_formed layout ≡ true → list_all (λ c. has_length c.kind) layout.columns ≡ true → list_all default_has_bytes layout.columns ≡ true
     → list_all (λ row. pointwise fits row layout.columns) rows ≡ true → HaveBytes rows → leb (length layout.columns) 256 ≡ true → IsWrittenDump layout rows
 is_written layout rows formed lengths defaults fit bytes few =
     let parts = formed_parts layout formed in

@@ -66,13 +66,13 @@ abbrev pub line_units : List ℕ → ℕ → List ℕ → List Column → List (
 line_units text at table cs [] = []
 line_units text at table cs (row ∷ rows) = insert_units text at table cs row rows
 
-abbrev create_pieces : List ℕ → List KeptPiece
+abbrev pub create_pieces : List ℕ → List KeptPiece
 create_pieces text = piece text (token_at 0 token.Word (codes "CREATE")) role.CREATE ∷ piece text (token_at (0 + 6 + 1) token.Word (codes "TABLE")) role.TABLE ∷ []
 
-abbrev dump_pieces : List ℕ → List ℕ → Layout → List (List Value) → List KeptPiece
+abbrev pub dump_pieces : List ℕ → List ℕ → Layout → List (List Value) → List KeptPiece
 dump_pieces text table layout rows = create_pieces text ++ end_piece text (create_end table layout) ∷ line_pieces text (line_at table layout) table layout.columns rows
 
-line_kept : (text : List ℕ) (at : ℕ) (table : List ℕ) (cs : List Column) (rows : List (List Value)) → kept_of text (tokens_from at (rows_parts table cs rows)) (roles_of (rows_letters cs rows)) ≡ line_pieces text at table cs rows
+pub line_kept : (text : List ℕ) (at : ℕ) (table : List ℕ) (cs : List Column) (rows : List (List Value)) → kept_of text (tokens_from at (rows_parts table cs rows)) (roles_of (rows_letters cs rows)) ≡ line_pieces text at table cs rows
 line_kept text at table cs [] = refl
 line_kept text at table cs (row ∷ rows) = insert_kept text at table cs row rows
 
@@ -101,24 +101,24 @@ no_second : (text table : List ℕ) (layout : Layout) (rows : List (List Value))
 no_second text table layout [] = refl
 no_second text table layout (row ∷ rows) = further_no_create text (closed_at (rows_at (line_at table layout) table) layout.columns row + 1) layout.columns rows _ refl
 
-abbrev first_line : ℕ → List (List Value) → Option ℕ
+abbrev pub first_line : ℕ → List (List Value) → Option ℕ
 first_line at [] = None
 first_line at (row ∷ rows) = Some at
 
-abbrev the_span : List ℕ → Layout → Span
+abbrev pub the_span : List ℕ → Layout → Span
 the_span table layout = record { from = 0; to = create_end table layout }
 
-abbrev the_outline : List ℕ → Layout → List (List Value) → Outline
+abbrev pub the_outline : List ℕ → Layout → List (List Value) → Outline
 the_outline table layout rows = record { create = Some (the_span table layout); first_insert = first_line (line_at table layout) rows; fault = None }
 
 insert_is : (text table : List ℕ) (layout : Layout) (rows : List (List Value)) → insert_place (dump_units text table layout rows) ≡ first_line (line_at table layout) rows
 insert_is text table layout [] = refl
 insert_is text table layout (row ∷ rows) = refl
 
-abbrev the_contents : List ℕ → List ℕ → Layout → List (List Value) → Contents
+abbrev pub the_contents : List ℕ → List ℕ → Layout → List (List Value) → Contents
 the_contents text table layout rows = record { pieces = dump_pieces text table layout rows; ending = None }
 
-outline_is : (text table : List ℕ) (layout : Layout) (rows : List (List Value)) → outline_of text (the_contents text table layout rows) ≡ the_outline table layout rows
+pub outline_is : (text table : List ℕ) (layout : Layout) (rows : List (List Value)) → outline_of text (the_contents text table layout rows) ≡ the_outline table layout rows
 outline_is text table layout rows =
     let split = dump_split text table layout rows in
     (λ i. let one : Outline = record { create = create_span text (split i); first_insert = insert_place (split i); fault = least (second_create (second_place (split i))) None } in one)
@@ -130,14 +130,14 @@ not_early table layout (row ∷ rows) = let later : ltb 0 (line_at table layout)
 
 -- The statement.
 
-statement_in : (table : List ℕ) (layout : Layout) (rows : List (List Value)) → bytes_in (text_of (dump_parts table layout rows)) (the_span table layout) ≡ text_of (statement_parts table layout)
+pub statement_in : (table : List ℕ) (layout : Layout) (rows : List (List Value)) → bytes_in (text_of (dump_parts table layout rows)) (the_span table layout) ≡ text_of (statement_parts table layout)
 statement_in table layout rows =
     let rest : List Part = mark 59 ∷ Blank 10 ∷ rows_parts table layout.columns rows in
     let long : create_end table layout - 0 ≡ length (text_of (statement_parts table layout)) = omega arith in
     ap (λ z. take (create_end table layout - 0) z) (text_of_both (statement_parts table layout) rest)
     ∙ take_at (text_of (statement_parts table layout)) (text_of rest) (create_end table layout - 0) (sym long)
 
-abbrev the_table : List ℕ → Layout → Created
+abbrev pub the_table : List ℕ → Layout → Created
 the_table table layout = record { table = table; schema = layout }
 
 -- what holds of a schema and rows that are written and read again
@@ -148,7 +148,7 @@ pub record IsWrittenDump (schema : Layout) (values : List (List Value)) : Type 0
   pub rows : RowsAreRead schema.columns values
   pub bytes : HaveBytes values
 
-created_is : (text table : List ℕ) (layout : Layout) (created : Option Created) (said : Result Statement DdlFault) → IsWrittenLayout layout → list_all default_has_bytes layout.columns ≡ true → text ≡ text_of (statement_parts table layout)
+pub created_is : (text table : List ℕ) (layout : Layout) (created : Option Created) (said : Result Statement DdlFault) → IsWrittenLayout layout → list_all default_has_bytes layout.columns ≡ true → text ≡ text_of (statement_parts table layout)
     → Says extent.Whole (statement_unless text) text said → created ≡ created_by said → created ≡ Some (the_table table layout)
 created_is text table layout created said w defaults is says from =
     let spells = statement_is_spelled table layout defaults in
@@ -164,14 +164,14 @@ named_at text table cs at row rows s =
     let named = past text (at + 6 + 1 + 4) (Blank 32) _ (past text (at + 6 + 1) (word (codes "INTO")) _ (past text (at + 6) (Blank 32) _ (past text at (word (codes "INSERT")) _ s))) in
     name_token_is_read text (token_at (name_at at) token.Quoted (quoted table)) table (spelling_at text (name_at at) token.Quoted (quoted table) _ named)
 
-abbrev line_places : ℕ → List ℕ → List Column → List (List Value) → List ℕ
+abbrev pub line_places : ℕ → List ℕ → List Column → List (List Value) → List ℕ
 line_places at table cs [] = []
 line_places at table cs (row ∷ rows) = row_places (rows_at at table) cs row rows
 
 abbrev pub the_inserts : ℕ → List ℕ → Layout → List (List Value) → Inserts
 the_inserts at table layout rows = record { places = line_places at table layout.columns rows; orders = orders_from layout (line_places at table layout.columns rows) }
 
-rows_gathered : (text table : List ℕ) (layout : Layout) (at : ℕ) (rows : List (List Value)) → ltb (length text) (2 ^ 32) ≡ true → is_order layout.columns (column_names layout.columns) ≡ true → RowsAreRead layout.columns rows → Stands text at (rows_parts table layout.columns rows)
+pub rows_gathered : (text table : List ℕ) (layout : Layout) (at : ℕ) (rows : List (List Value)) → ltb (length text) (2 ^ 32) ≡ true → is_order layout.columns (column_names layout.columns) ≡ true → RowsAreRead layout.columns rows → Stands text at (rows_parts table layout.columns rows)
     → unless_inserts (gathered text table layout.columns (line_units text at table layout.columns rows)) None ≡ Ok (the_inserts at table layout rows)
 rows_gathered text table layout at [] short order read s = refl
 rows_gathered text table layout at (row ∷ rows) short order read s =
@@ -182,7 +182,7 @@ further_at : (text : List ℕ) (layout : Layout) (at : ℕ) (rows : List (List V
 further_at text layout at [] order stand = tt
 further_at text layout at (row ∷ rows) order stand = (row_is_read text layout (at + 1) row order stand.0, further_at text layout (closed_at (at + 1) layout.columns row + 1) rows order stand.1)
 
-rows_at_places : (text table : List ℕ) (layout : Layout) (at : ℕ) (rows : List (List Value)) → ltb (length text) (2 ^ 32) ≡ true → is_order layout.columns (column_names layout.columns) ≡ true → RowsAreRead layout.columns rows → Stands text at (rows_parts table layout.columns rows)
+pub rows_at_places : (text table : List ℕ) (layout : Layout) (at : ℕ) (rows : List (List Value)) → ltb (length text) (2 ^ 32) ≡ true → is_order layout.columns (column_names layout.columns) ≡ true → RowsAreRead layout.columns rows → Stands text at (rows_parts table layout.columns rows)
     → StandAt text layout (line_places at table layout.columns rows) rows
 rows_at_places text table layout at [] short order read s = tt
 rows_at_places text table layout at (row ∷ rows) short order read s =
@@ -191,7 +191,7 @@ rows_at_places text table layout at (row ∷ rows) short order read s =
 
 -- The whole.
 
-contents_known : (table : List ℕ) (layout : Layout) (rows : List (List Value)) (all : Contents) → IsWrittenDump layout rows → HasContents (text_of (dump_parts table layout rows)) all → all ≡ the_contents (text_of (dump_parts table layout rows)) table layout rows
+pub contents_known : (table : List ℕ) (layout : Layout) (rows : List (List Value)) (all : Contents) → IsWrittenDump layout rows → HasContents (text_of (dump_parts table layout rows)) all → all ≡ the_contents (text_of (dump_parts table layout rows)) table layout rows
 contents_known table layout rows all w has =
     let text : List ℕ = text_of (dump_parts table layout rows) in
     contents_are (dump_parts table layout rows) (dump_letters (spelled (table_parts table layout)) layout.columns rows) all (dump_spelled table layout rows w.defaults w.bytes) (dump_kinds table layout rows)

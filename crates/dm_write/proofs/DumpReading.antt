@@ -59,7 +59,7 @@ line_kinds table cs row rows =
     ap (λ z. terminal.INSERT ∷ terminal.INTO ∷ terminal.QUOTED ∷ terminal.VALUES ∷ z)
     (both_kinds (tuple_parts cs row ++ further_parts cs rows) line_end (row_letters cs row ++ more_rows cs rows) (end_letter ∷ []) (both_kinds (tuple_parts cs row) (further_parts cs rows) (row_letters cs row) (more_rows cs rows) (row_kinds cs row) (further_kinds cs rows)) refl)
 
-rows_kinds : (table : List ℕ) (cs : List Column) (rows : List (List Value)) → KindsAs (rows_parts table cs rows) (rows_letters cs rows)
+pub rows_kinds : (table : List ℕ) (cs : List Column) (rows : List (List Value)) → KindsAs (rows_parts table cs rows) (rows_letters cs rows)
 rows_kinds table cs [] = refl
 rows_kinds table cs (row ∷ rows) = line_kinds table cs row rows
 

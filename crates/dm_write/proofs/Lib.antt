@@ -24,3 +24,4 @@ pub mod DumpReading
 pub mod Inner
 pub mod DumpBack
 pub mod BackAgain
+pub mod LinesBack
