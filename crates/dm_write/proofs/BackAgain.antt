@@ -1,6 +1,6 @@
 -- What holds of each schema and of rows that fit it: their dump is read back.
-use Rattle.std.proofs.Common.{◌≡◌, ◌==◌, ◌||◌, ◌&&◌, ◌<◌, ◌^◌, ℕ, Bool, true, false, not, cond, ltb, leb, List, [], ◌∷◌, ◌++◌, length, Option, Some, None, refl, sym, ap, ◌∙◌, subst, arith}
-use Rattle.std.specs.Prelude.{⊤, is_none, IsTrue}
+use Rattle.std.proofs.Common.{◌≡◌, ◌==◌, ◌||◌, ◌&&◌, ◌<◌, ◌^◌, ℕ, Bool, true, false, not, ltb, leb, List, [], ◌∷◌, length, refl, sym, ◌∙◌, subst, arith}
+use Rattle.std.specs.Prelude.{is_none, IsTrue}
 use Rattle.std.specs.List.{list_any, list_all}
 use Rattle.std.specs.Cmp.Lexicographic.{pointwise, same_text}
 use Rattle.std.proofs.lemmas.Bool.{and_parts}
@@ -25,12 +25,10 @@ use Rattle.dm_write.specs.Dumps.{dump_text}
 use Rattle.dm_write.specs.Lengths.{has_length}
 use Rattle.dm_write.specs.ReadBack.{IsReadBack}
 use Rattle.dm_write.proofs.Splitting.{either_false}
-use Rattle.dm_write.proofs.RowValues.{AreRead, are_read}
+use Rattle.dm_write.proofs.RowValues.{are_read}
 use Rattle.dm_write.proofs.DumpSentence.{RowsAreRead}
 use Rattle.dm_write.proofs.CreateSentence.{DefaultIsRead, ColumnsAreRead}
-use Rattle.dm_write.proofs.ColumnItems.{IsWritten}
 use Rattle.dm_write.proofs.CreateSchema.{ColumnsAreWritten, KeysAreWritten}
-use Rattle.dm_write.proofs.Restated.{IsWrittenLayout}
 use Rattle.dm_write.proofs.DumpStanding.{dump_parts, dump_written, HaveBytes}
 use Rattle.dm_write.proofs.DumpBack.{IsWrittenDump, parts_read_back}
 

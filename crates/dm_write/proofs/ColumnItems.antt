@@ -1,9 +1,8 @@
 -- What the definition of a written column says: the column.
-use Rattle.std.proofs.Common.{◌≡◌, ◌==◌, ◌||◌, ◌&&◌, ◌+◌, ◌-◌, ◌^◌, ◌<◌, ◌≤◌, ℕ, suc, Bool, true, false, not, cond, ltb, leb, List, [], ◌∷◌, ◌++◌, map, drop, Option, Some, None, refl, sym, ap, ◌∙◌, subst, arith}
+use Rattle.std.proofs.Common.{◌≡◌, ◌==◌, ◌||◌, ◌-◌, ◌^◌, ◌<◌, ℕ, Bool, true, false, not, cond, ltb, leb, List, [], ◌∷◌, ◌++◌, map, Some, None, refl, sym, ap, ◌∙◌, subst, arith}
 use Rattle.std.specs.Option.{option_map_or}
-use Rattle.std.specs.Prelude.{⊤, is_none, unwrap_or, codes}
+use Rattle.std.specs.Prelude.{is_none, unwrap_or, codes}
 use Rattle.std.specs.List.{list_any, list_all, find}
-use Rattle.std.specs.Fmt.{decimal}
 use Rattle.std.proofs.lemmas.Bool.{and_parts, eqb-true, leb-true, false≢true}
 use Rattle.std.proofs.lemmas.Bool.Decides.{nat_tests}
 use Rattle.std.proofs.lemmas.List.{map-append}
@@ -14,30 +13,25 @@ use Rattle.dm_schema.specs.declared.column.Kind.TheVariants as kind
 use Rattle.dm_schema.specs.declared.column.Column.{Column}
 use Rattle.dm_schema.specs.declared.column.DefaultRule.{DefaultRule}
 use Rattle.dm_schema.specs.declared.column.DefaultRule.TheVariants as default
-use Rattle.dm_schema.specs.Kinds.{is_between, is_integer_size, is_kind, is_null, is_rule, is_folded}
+use Rattle.dm_schema.specs.Kinds.{is_between, is_kind, is_null, is_rule, is_folded}
 use Rattle.dm_schema.specs.Effect.{is_among, rule_by}
-use Rattle.dm_text.specs.Names.{quoted}
 use Rattle.dm_text.specs.Kinds.{integer_text, prefix_text, fraction_digits}
-use Rattle.dm_time.specs.Texts.{number_of}
-use Rattle.dm_lex.specs.declared.token.TokenKind.{TokenKind}
 use Rattle.dm_lex.specs.declared.token.TokenKind.TheVariants as token
-use Rattle.dm_lex.specs.Literals.{lower, literal_of}
+use Rattle.dm_lex.specs.Literals.{lower}
 use Rattle.dm_syntax.specs.declared.role.TheConstants as role
-use Rattle.dm_syntax.specs.declared.terminal.TheConstants as terminal
-use Rattle.dm_syntax.specs.Names.{unquoted}
 use Rattle.dm_syntax.specs.Pieces.{parts}
-use Rattle.dm_ddl.specs.Bounds.{held, is_in_range}
+use Rattle.dm_ddl.specs.Bounds.{held}
 use Rattle.dm_reread.specs.Parts.{Part, Spelling, spelled, value_parts}
 use Rattle.dm_reread.specs.Read.{IsRead, Null, Literal, Minus}
 use Rattle.dm_reread.proofs.Laws.{name_is_read, number_is_read}
 use Rattle.dm_write.specs.Lengths.{has_length}
-use Rattle.dm_write.proofs.Splitting.{either_false, any_both, all_both, find_both, find_none, parts_skip, parts_none, part_last}
+use Rattle.dm_write.proofs.Splitting.{either_false, any_both, find_none, parts_skip, part_last}
 use Rattle.dm_write.proofs.StatementTokens.{terminal_seen}
 use Rattle.dm_write.proofs.Signs as sign
 use Rattle.dm_write.proofs.Signs.{Sign}
 use Rattle.dm_write.proofs.CreateSentence.{each_size, each_prefix, DefaultIsRead}
-use Rattle.dm_write.proofs.Seen.{Seen, shown, first_of, has, number_seen, number, folded, word_seen}
-use Rattle.dm_write.proofs.Meaning.{kind_by, kind_of, starts, last_default_seen, last_seen, rule_of, literal_in_seen, nullable_by, nullable_of, name_of_column, default_of, unfit_of, column_of, key_from, uniques_of, primaries_of, excess, has_excess}
+use Rattle.dm_write.proofs.Seen.{Seen, shown, has, number_seen, number, folded}
+use Rattle.dm_write.proofs.Meaning.{kind_by, kind_of, starts, last_default_seen, last_seen, rule_of, nullable_by, nullable_of, name_of_column, default_of, unfit_of, column_of, key_from, uniques_of, primaries_of}
 
 abbrev pub all_shown : List Sign → List Seen
 all_shown signs = map shown signs

@@ -1,24 +1,23 @@
 -- The definitions of a written CREATE TABLE are its items, and it names its table.
-use Rattle.std.proofs.Common.{◌≡◌, ◌==◌, ◌||◌, ◌&&◌, ◌≤◌, ℕ, Bool, true, false, not, cond, leb, List, [], ◌∷◌, ◌++◌, map, drop, Option, Some, None, refl, sym, ap, ◌∙◌, subst, arith, append_assoc}
+use Rattle.std.proofs.Common.{◌≡◌, ◌==◌, ◌||◌, ℕ, Bool, true, false, leb, List, [], ◌∷◌, ◌++◌, refl, sym, ap, ◌∙◌, subst, arith, append_assoc}
 use Rattle.std.specs.Prelude.{codes}
-use Rattle.std.specs.List.{list_any, list_all, flat_map, filter}
+use Rattle.std.specs.List.{list_any, flat_map}
 use Rattle.std.proofs.lemmas.Bool.{and_parts, eqb-true, leb-true}
 use Rattle.std.proofs.lemmas.Bool.Decides.{nat_tests}
 use Rattle.std.proofs.lemmas.List.{map-append}
 use Rattle.dm_schema.specs.declared.column.Column.{Column}
 use Rattle.dm_schema.specs.declared.column.UniqueKey.{UniqueKey}
-use Rattle.dm_schema.specs.Layout.{Layout}
 use Rattle.dm_schema.specs.Kinds.{is_between}
 use Rattle.dm_syntax.specs.declared.role.TheConstants as role
 use Rattle.dm_syntax.specs.Pieces.{parts}
 use Rattle.dm_ddl.specs.Bounds.{item_roles}
-use Rattle.dm_write.proofs.Splitting.{any_both, all_both, part_first, part_last}
+use Rattle.dm_write.proofs.Splitting.{all_both, part_first, part_last}
 use Rattle.dm_write.proofs.Signs as sign
 use Rattle.dm_write.proofs.Signs.{Sign}
-use Rattle.dm_write.proofs.Seen.{Seen, shown}
+use Rattle.dm_write.proofs.Seen.{shown}
 use Rattle.dm_write.proofs.Meaning.{starts}
-use Rattle.dm_write.proofs.ColumnItems.{all_shown, only, starts_none, is_kind_role, is_null_role, is_default_role, kind_roles, null_roles, default_roles, weaker, column_item}
-use Rattle.dm_write.proofs.KeyItems.{is_filler, is_part_role, names_before, names_roles, definition, primary_item, unique_item}
+use Rattle.dm_write.proofs.ColumnItems.{all_shown, only, starts_none, is_kind_role, is_null_role, is_default_role, kind_roles, null_roles, default_roles, weaker}
+use Rattle.dm_write.proofs.KeyItems.{is_filler, is_part_role, names_before, names_roles, definition}
 use Rattle.dm_write.proofs.CreateSchema.{comma, closing, unique_items, primary_items, items, each_shown}
 
 -- Roles within definitions: neither one that begins a definition, nor one of a table's name.

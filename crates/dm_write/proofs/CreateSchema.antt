@@ -1,25 +1,23 @@
 -- What a written CREATE TABLE says: the schema.
-use Rattle.std.proofs.Common.{◌≡◌, ◌==◌, ◌||◌, ◌&&◌, ◌<◌, ◌≤◌, ℕ, Bool, true, false, not, cond, leb, ltb, List, [], ◌∷◌, ◌++◌, map, length, Option, Some, None, Result, Ok, refl, sym, ap, ◌∙◌, subst, arith, append_assoc, append-nil}
+use Rattle.std.proofs.Common.{◌≡◌, ◌==◌, ◌||◌, ◌&&◌, ℕ, true, false, leb, ltb, List, [], ◌∷◌, ◌++◌, map, length, Option, Some, None, Ok, refl, sym, ap, ◌∙◌, subst, arith, append_assoc, append-nil}
 use Rattle.std.specs.Prelude.{⊤, is_none}
-use Rattle.std.specs.List.{list_any, list_all, filter, flat_map}
+use Rattle.std.specs.List.{list_any, list_all, flat_map}
 use Rattle.std.proofs.lemmas.Bool.{and_parts, leb-true}
 use Rattle.std.proofs.lemmas.Bool.Decides.{nat_tests}
 use Rattle.dm_list.specs.Answer.{first_refusal, unless_refused}
 use Rattle.dm_schema.specs.declared.column.Column.{Column}
 use Rattle.dm_schema.specs.declared.column.UniqueKey.{UniqueKey}
-use Rattle.dm_schema.specs.declared.fault.SchemaFault.{SchemaFault}
-use Rattle.dm_schema.specs.declared.fault.SchemaFault.TheVariants as fault
 use Rattle.dm_schema.specs.Layout.{Layout}
 use Rattle.dm_schema.specs.Kinds.{is_folded, is_key, is_column}
-use Rattle.dm_schema.specs.Schemas.{refusals, is_too_many, has_too_many_keys, schema_of, is_formed}
+use Rattle.dm_schema.specs.Schemas.{refusals, is_too_many, schema_of, is_formed}
 use Rattle.dm_syntax.specs.declared.role.TheConstants as role
 use Rattle.dm_ddl.specs.declared.keys.WrittenKey.{WrittenKey}
 use Rattle.dm_ddl.specs.Creating.{all_columns_of, named_behind, unless_unfit, created}
 use Rattle.dm_write.proofs.Signs as sign
 use Rattle.dm_write.proofs.Signs.{Sign}
 use Rattle.dm_write.proofs.Seen.{Seen, has}
-use Rattle.dm_write.proofs.Meaning.{columns_of, column_of, primaries, primaries_of, uniques_of, unfit_of, has_excess, schema_of_seen}
-use Rattle.dm_write.proofs.ColumnItems.{all_shown, only, column_item, column_parts, column_splits, IsWritten, column_is_read, column_fits, no_primary, no_unique}
+use Rattle.dm_write.proofs.Meaning.{columns_of, primaries, primaries_of, uniques_of, unfit_of, has_excess, schema_of_seen}
+use Rattle.dm_write.proofs.ColumnItems.{all_shown, only, column_item, column_splits, IsWritten, column_is_read, column_fits, no_primary, no_unique}
 use Rattle.dm_write.proofs.KeyItems.{is_filler, primary_item, unique_item, primary_has_no_column, primary_is_read, primary_no_unique, unique_has_no_column, unique_no_primary, unique_is_read, written}
 use Rattle.dm_write.proofs.Ranges.{column_in_range, primary_in_range, unique_in_range}
 

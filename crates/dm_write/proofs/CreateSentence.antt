@@ -1,5 +1,5 @@
 -- A written CREATE TABLE is a sentence of the grammar of statements.
-use Rattle.std.proofs.Common.{◌≡◌, ◌==◌, ℕ, zero, Bool, true, false, not, ◌&&◌, ◌||◌, cond, leb, List, [], ◌∷◌, ◌++◌, map, refl, sym, ap, ◌∙◌, subst, arith, append-nil, length, suc}
+use Rattle.std.proofs.Common.{◌≡◌, ◌==◌, ℕ, zero, Bool, true, false, not, ◌||◌, cond, leb, List, [], ◌∷◌, ◌++◌, refl, sym, ap, ◌∙◌, subst, arith, append-nil, length, suc}
 use Rattle.std.specs.Prelude.{⊤, codes}
 use Rattle.std.specs.List.{flat_map, list_all, list_any}
 use Rattle.std.specs.Fmt.{decimal}
@@ -90,7 +90,6 @@ SaysInteger size = in_class class.INTEGER (terminal_seen (record { kind = token.
 
 integer : (size : ℕ) → is_integer_size size ≡ true → SaysInteger size
 integer size h = each_size SaysInteger size refl refl refl refl refl h
-
 
 signed_type : (size : ℕ) → is_integer_size size ≡ true → Says rule.data_type (sign.kind_signs (kind.Signed size))
 signed_type size h = one _ (before class.INTEGER role.TYPE _ _ (integer size h) refl (passing _ no_more))

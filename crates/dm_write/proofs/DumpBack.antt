@@ -1,7 +1,6 @@
 -- A dump that is written is read back.
-use Rattle.std.proofs.Common.{◌≡◌, ◌==◌, ◌||◌, ◌&&◌, ◌+◌, ◌-◌, ◌<◌, ◌^◌, ℕ, Bool, true, false, cond, ltb, leb, List, [], ◌∷◌, ◌++◌, map, fold, take, drop, length, Option, Some, None, Result, Ok, Err, refl, sym, ap, ◌∙◌, subst, arith, append_assoc, append-nil, take_at}
-use Rattle.std.specs.Prelude.{⊤, codes}
-use Rattle.std.specs.Option.{option_map, option_or}
+use Rattle.std.proofs.Common.{◌≡◌, ◌+◌, ◌-◌, ◌^◌, ℕ, true, ltb, List, [], ◌∷◌, ◌++◌, take, length, Option, Some, None, Result, Ok, refl, sym, ap, ◌∙◌, subst, arith, append-nil, take_at}
+use Rattle.std.specs.Prelude.{codes}
 use Rattle.std.specs.List.{list_all}
 use Rattle.std.proofs.lemmas.Bool.Decides.{nat_tests}
 use Rattle.std.proofs.lemmas.List.{map-append}
@@ -11,17 +10,14 @@ use Rattle.dm_schema.specs.Layout.{Layout}
 use Rattle.dm_schema.specs.Names.{column_names}
 use Rattle.dm_text.specs.Names.{quoted}
 use Rattle.dm_lex.specs.declared.token.TokenKind.TheVariants as token
-use Rattle.dm_grammar.specs.Grammar.{Letter}
 use Rattle.dm_grammar.specs.Sentence.{roles_of}
 use Rattle.dm_syntax.specs.declared.fault.DdlFault.{DdlFault}
 use Rattle.dm_syntax.specs.declared.parsing.Extent.TheVariants as extent
 use Rattle.dm_syntax.specs.Names.{name_of}
 use Rattle.dm_syntax.specs.Parsing.{Says}
-use Rattle.dm_syntax.specs.Pieces.{parts}
 use Rattle.dm_ddl.specs.declared.statements.Statement.{Statement}
 use Rattle.dm_ddl.specs.Statements.{statement_unless}
 use Rattle.dm_dump.specs.declared.role.TheConstants as role
-use Rattle.dm_dump.specs.declared.fault.Fault.{Fault}
 use Rattle.dm_dump.specs.declared.fault.DumpFault.{DumpFault}
 use Rattle.dm_dump.specs.declared.inserts.Inserts.{Inserts}
 use Rattle.dm_dump.specs.declared.outline.Span.{Span}
@@ -29,22 +25,21 @@ use Rattle.dm_dump.specs.declared.outline.Outline.{Outline}
 use Rattle.dm_dump.specs.declared.dump.Dump.{Dump}
 use Rattle.dm_dump.specs.declared.dump.Created.{Created}
 use Rattle.dm_dump.specs.Reading.{Contents, HasContents}
-use Rattle.dm_dump.specs.Units.{begins_unit, units}
+use Rattle.dm_dump.specs.Units.{units}
 use Rattle.dm_dump.specs.Outlines.{least, create_place, second_place, second_create, insert_place, create_span, outline_of}
 use Rattle.dm_dump.specs.Rows.{gathered, unless_inserts, rows_of, HasRows}
 use Rattle.dm_dump.specs.Dumps.{bytes_in, early_insert, created_by, dump_of, DumpBy, DumpWith, IsDump}
 use Rattle.dm_dump.specs.Orders.{is_order}
-use Rattle.dm_reread.specs.Parts.{Part, Blank, text_of, tokens_from, spelled, spelling_of, mark, word, name_part, is_spelled, default_has_bytes}
+use Rattle.dm_reread.specs.Parts.{Part, Blank, text_of, tokens_from, spelled, mark, word, default_has_bytes}
 use Rattle.dm_reread.proofs.Laws.{text_of_both, text_has_tokens, tokens_at_are_spelled, name_token_is_read}
-use Rattle.dm_write.specs.Dumps.{dump_text}
-use Rattle.dm_write.specs.ReadBack.{StandAt, orders_from, HasInserts, IsReadBack}
+use Rattle.dm_write.specs.ReadBack.{StandAt, orders_from, HasInserts}
 use Rattle.dm_write.proofs.Placed.{Stands, past, past_all, token_at, spelling_at}
-use Rattle.dm_write.proofs.DumpSentence.{is_inner, fills, filled, RowsAreRead, rows_letters, dump_letters, end_letter, says_dump}
+use Rattle.dm_write.proofs.DumpSentence.{filled, RowsAreRead, rows_letters, dump_letters, end_letter, says_dump}
 use Rattle.dm_write.proofs.StatementParts.{table_parts, statement_parts, statement_is_spelled}
-use Rattle.dm_write.proofs.Restated.{IsWrittenLayout, the_create, says_the_create}
-use Rattle.dm_write.proofs.DumpPieces.{KeptPiece, piece, kept_of, passed_over, line_end, insert_parts, name_at, rows_at, closed_at, further_places, end_piece, insert_pieces, insert_kept, row_pieces}
-use Rattle.dm_write.proofs.DumpRows.{insert_units, insert_split, further_units, RowStands, FurtherStand, row_is_read, row_places, own_order, gathered_as, line_gathered}
-use Rattle.dm_write.proofs.DumpStanding.{rows_parts, dump_parts, dump_written, HaveBytes, dump_spelled, line_stands}
+use Rattle.dm_write.proofs.Restated.{IsWrittenLayout, says_the_create}
+use Rattle.dm_write.proofs.DumpPieces.{KeptPiece, piece, kept_of, passed_over, insert_parts, name_at, rows_at, closed_at, further_places, end_piece, insert_pieces, insert_kept}
+use Rattle.dm_write.proofs.DumpRows.{insert_units, insert_split, further_units, FurtherStand, row_is_read, row_places, line_gathered}
+use Rattle.dm_write.proofs.DumpStanding.{rows_parts, dump_parts, HaveBytes, dump_spelled, line_stands}
 use Rattle.dm_write.proofs.Inner.{table_inner}
 use Rattle.dm_write.proofs.DumpReading.{dump_kinds, contents_are}
 
@@ -244,6 +239,8 @@ answer_known table layout rows answer w short (outline, (all, has, is), dumped) 
 pub parts_read_back : (table : List ℕ) (layout : Layout) (rows : List (List Value)) → IsWrittenDump layout rows → ltb (length (text_of (dump_parts table layout rows))) (2 ^ 32) ≡ true → (answer : Result Dump DumpFault)
     → IsDump (text_of (dump_parts table layout rows)) answer
     → (inserts : Inserts) × (answer ≡ Ok (record { table = table; schema = layout; inserts = inserts })) × HasInserts (text_of (dump_parts table layout rows)) layout rows inserts
-parts_read_back table layout rows w short answer says =
-    (the_inserts (line_at table layout) table layout rows, answer_known table layout rows answer w short says,
-    (rows_at_places (text_of (dump_parts table layout rows)) table layout (line_at table layout) rows short w.order w.rows (line_stand table layout rows w), refl))
+parts_read_back table layout rows w short answer says = (
+  the_inserts (line_at table layout) table layout rows,
+  answer_known table layout rows answer w short says,
+  (rows_at_places (text_of (dump_parts table layout rows)) table layout (line_at table layout) rows short w.order w.rows (line_stand table layout rows w), refl),
+)

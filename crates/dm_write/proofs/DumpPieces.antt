@@ -1,5 +1,5 @@
 -- The pieces of a written dump that are kept: where statements and rows begin.
-use Rattle.std.proofs.Common.{◌≡◌, ◌==◌, ◌+◌, ℕ, suc, Bool, true, false, not, List, [], ◌∷◌, ◌++◌, map, length, refl, sym, ap, ◌∙◌, subst, arith, append_assoc}
+use Rattle.std.proofs.Common.{◌≡◌, ◌+◌, ℕ, suc, List, [], ◌∷◌, ◌++◌, map, length, refl, ap, ◌∙◌, arith, append_assoc}
 use Rattle.std.specs.Prelude.{codes}
 use Rattle.std.specs.List.{flat_map, filter}
 use Rattle.std.proofs.lemmas.List.{length-append, map-append}
@@ -7,7 +7,6 @@ use Rattle.dm_value.specs.declared.value.Value.{Value}
 use Rattle.dm_schema.specs.declared.column.Column.{Column}
 use Rattle.dm_text.specs.Names.{quoted}
 use Rattle.dm_lex.specs.declared.token.Token.{Token}
-use Rattle.dm_lex.specs.declared.token.TokenKind.{TokenKind}
 use Rattle.dm_lex.specs.declared.token.TokenKind.TheVariants as token
 use Rattle.dm_grammar.specs.Sentence.{roles_of}
 use Rattle.dm_syntax.specs.declared.piece.Piece as kept
@@ -15,8 +14,7 @@ use Rattle.dm_syntax.specs.Pieces.{pieces_of}
 use Rattle.dm_dump.specs.declared.role.TheConstants as role
 use Rattle.dm_dump.specs.Terminals.{terminal_of}
 use Rattle.dm_dump.specs.Reading.{kinds_of, counts}
-use Rattle.dm_reread.specs.Parts.{Part, Blank, Piece, part_bytes, text_of, tokens_from, spelled, word, mark, name_part, behind_comma, comma_parts, all_value_parts, tuple_parts}
-use Rattle.dm_reread.proofs.Laws.{text_of_both}
+use Rattle.dm_reread.specs.Parts.{Part, Blank, Piece, text_of, tokens_from, word, mark, name_part, behind_comma, comma_parts, all_value_parts, tuple_parts}
 use Rattle.dm_write.proofs.Placed.{token_at}
 use Rattle.dm_write.proofs.DumpSentence.{filled, row_letters, more_rows, end_letter, insert_letters}
 

@@ -1,37 +1,29 @@
 -- Whatever a written dump is read as is the table, its schema and its rows.
-use Rattle.std.proofs.Common.{◌≡◌, ◌==◌, ◌||◌, ◌&&◌, ◌+◌, ◌-◌, ◌<◌, ◌^◌, ℕ, Bool, true, false, not, cond, ltb, leb, List, [], ◌∷◌, ◌++◌, map, fold, take, drop, length, All, Option, Some, None, Result, Ok, Err, refl, sym, ap, ◌∙◌, subst, arith, append_assoc, append-nil, take_at}
-use Rattle.std.specs.Prelude.{⊤, codes}
-use Rattle.std.specs.Option.{option_map, option_or}
-use Rattle.std.specs.List.{flat_map, list_all, filter}
-use Rattle.std.proofs.lemmas.Bool.{and_parts}
+use Rattle.std.proofs.Common.{◌≡◌, ℕ, true, List, [], ◌∷◌, ◌++◌, map, None, refl, sym, ap, ◌∙◌, subst, append-nil}
 use Rattle.std.proofs.lemmas.List.{map-append}
 use Rattle.dm_value.specs.declared.value.Value.{Value}
 use Rattle.dm_schema.specs.declared.column.Column.{Column}
 use Rattle.dm_schema.specs.Layout.{Layout}
-use Rattle.dm_schema.specs.Names.{column_names}
 use Rattle.dm_lex.specs.declared.token.Token.{Token}
-use Rattle.dm_lex.specs.Tokens.{Lexed, lexed_of}
+use Rattle.dm_lex.specs.Tokens.{lexed_of}
 use Rattle.dm_grammar.specs.Grammar.{Letter}
 use Rattle.dm_grammar.specs.Sentence as letters
 use Rattle.dm_grammar.specs.Sentence.{roles_of}
-use Rattle.dm_grammar.specs.declared.reader.Fault.{Fault}
-use Rattle.dm_syntax.specs.Pieces.{pieces_of}
 use Rattle.dm_lex.specs.declared.token.TokenKind.TheVariants as token
 use Rattle.dm_dump.specs.declared.terminal.TheConstants as terminal
-use Rattle.dm_dump.specs.declared.role.TheConstants as role
-use Rattle.dm_dump.specs.Terminals.{terminal_of, in_class}
+use Rattle.dm_dump.specs.Terminals.{in_class}
 use Rattle.dm_dump.specs.Productions.{dump_grammar}
-use Rattle.dm_dump.specs.Reading.{kinds_of, counts, Contents, contents, HasContents}
+use Rattle.dm_dump.specs.Reading.{kinds_of, Contents, contents, HasContents}
 use Rattle.dm_dump.proofs.Small.{kinds_small}
 use Rattle.dm_dump.proofs.Ready.{dump_ready}
 use Rattle.dm_grammar.proofs.Uniqueness.{one_reading}
-use Rattle.dm_reread.specs.Parts.{Part, Blank, Spelling, spelled, text_of, tokens_from, lexed_as, spelling_of, is_spelled, mark, behind_comma, comma_parts, all_value_parts, tuple_parts}
+use Rattle.dm_reread.specs.Parts.{Part, Blank, Spelling, spelled, text_of, tokens_from, lexed_as, spelling_of, is_spelled, mark, tuple_parts}
 use Rattle.dm_reread.proofs.Laws.{spelled_of_both, parts_are_lexed, tokens_at_are_spelled}
 use Rattle.dm_write.proofs.Speaking.{Speaks, sentence}
 use Rattle.dm_write.proofs.DumpTokens.{terminal_seen, seen_as}
-use Rattle.dm_write.proofs.DumpSentence.{fill, fills, filled, RowsAreRead, row_letters, more_rows, insert_letters, end_letter, rows_letters, dump_letters}
-use Rattle.dm_write.proofs.StatementParts.{table_parts, statement_parts}
-use Rattle.dm_write.proofs.DumpPieces.{KeptPiece, kept_of, values_of_row, further_parts, line_end, insert_parts}
+use Rattle.dm_write.proofs.DumpSentence.{fills, filled, row_letters, more_rows, insert_letters, end_letter, rows_letters, dump_letters}
+use Rattle.dm_write.proofs.StatementParts.{table_parts}
+use Rattle.dm_write.proofs.DumpPieces.{kept_of, values_of_row, further_parts, line_end, insert_parts}
 use Rattle.dm_write.proofs.DumpStanding.{rows_parts, dump_parts}
 
 -- The kinds of a dump's tokens.

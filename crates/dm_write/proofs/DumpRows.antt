@@ -1,9 +1,8 @@
 -- The rows of a written dump are gathered at their places.
-use Rattle.std.proofs.Common.{◌≡◌, ◌==◌, ◌||◌, ◌&&◌, ◌+◌, ◌<◌, ◌^◌, ℕ, suc, Bool, true, false, not, cond, ltb, List, [], ◌∷◌, ◌++◌, map, fold, drop, length, Option, Some, None, Result, Ok, refl, sym, ap, ◌∙◌, subst, arith, append_assoc, append-nil, eqb, eq-eqb}
-use Rattle.std.specs.Prelude.{⊤, codes, slice_get, is_some, option_and_then}
-use Rattle.std.specs.Option.{option_map, option_map_or, option_to_list}
-use Rattle.std.specs.List.{list_any, list_all, flat_map, find}
-use Rattle.std.specs.Cmp.Lexicographic.{pointwise, same_text}
+use Rattle.std.proofs.Common.{◌≡◌, ◌==◌, ◌&&◌, ◌+◌, ℕ, suc, Bool, true, false, not, cond, List, [], ◌∷◌, ◌++◌, fold, length, Option, Some, None, refl, sym, ap, ◌∙◌, subst, append_assoc, append-nil, eq-eqb}
+use Rattle.std.specs.Prelude.{⊤, is_some, option_and_then}
+use Rattle.std.specs.Option.{option_map, option_to_list}
+use Rattle.std.specs.List.{list_any}
 use Rattle.std.proofs.lemmas.Bool.{and_parts}
 use Rattle.std.proofs.lemmas.Cmp.{nat_list_eq_equiv}
 use Rattle.dm_value.specs.declared.value.Value.{Value}
@@ -18,13 +17,13 @@ use Rattle.dm_syntax.specs.Names.{name_of}
 use Rattle.dm_syntax.specs.Pieces.{parts}
 use Rattle.dm_dump.specs.declared.inserts.InsertOrder.{InsertOrder}
 use Rattle.dm_dump.specs.declared.literal.Literal.{Literal}
-use Rattle.dm_dump.specs.Units.{begins_unit, units}
+use Rattle.dm_dump.specs.Units.{begins_unit}
 use Rattle.dm_dump.specs.Literals.{has_bracket, literals_at, value_in, values_of, first_unfit}
-use Rattle.dm_dump.specs.Orders.{is_order, columns_by, stand_so, in_schema_order, values_in, row_of}
-use Rattle.dm_dump.specs.Rows.{is_table, order_in, unfit, row_fault, Gathered, nothing, with_order, with_head, with_place, with_row, with_unit, gathered}
+use Rattle.dm_dump.specs.Orders.{is_order, columns_by, stand_so, in_schema_order, row_of}
+use Rattle.dm_dump.specs.Rows.{row_fault, Gathered, nothing, with_place, with_unit, gathered}
 use Rattle.dm_write.proofs.Splitting.{either_false}
 use Rattle.dm_write.proofs.Placed.{token_at}
-use Rattle.dm_write.proofs.DumpPieces.{KeptPiece, piece, open_piece, close_piece, closed_at, row_pieces, further_places, behind_further, further_pieces, end_piece, line_end_at, all_rows, head_pieces, name_at, values_at, rows_at, insert_pieces}
+use Rattle.dm_write.proofs.DumpPieces.{KeptPiece, closed_at, row_pieces, further_places, further_pieces, end_piece, line_end_at, all_rows, head_pieces, name_at, rows_at, insert_pieces}
 
 -- Units.
 

@@ -1,6 +1,6 @@
 -- A written dump is a sentence of the grammar of dumps.
-use Rattle.std.proofs.Common.{◌≡◌, ◌==◌, ℕ, Bool, true, false, not, ◌&&◌, ◌||◌, cond, List, [], ◌∷◌, ◌++◌, map, refl, sym, ap, ◌∙◌, subst, append-nil}
-use Rattle.std.specs.Prelude.{⊤, codes}
+use Rattle.std.proofs.Common.{◌≡◌, ◌==◌, ℕ, Bool, true, not, List, [], ◌∷◌, ◌++◌, map, refl, sym, ap, ◌∙◌, subst, append-nil}
+use Rattle.std.specs.Prelude.{⊤}
 use Rattle.std.specs.List.{flat_map, list_all}
 use Rattle.std.proofs.lemmas.Bool.{and_parts}
 use Rattle.std.proofs.lemmas.List.{map-append}
@@ -9,15 +9,14 @@ use Rattle.dm_schema.specs.declared.column.Kind.{Kind}
 use Rattle.dm_schema.specs.declared.column.Column.{Column}
 use Rattle.dm_lex.specs.declared.token.TokenKind.{TokenKind}
 use Rattle.dm_lex.specs.declared.token.TokenKind.TheVariants as token
-use Rattle.dm_lex.specs.Literals.{is_word}
 use Rattle.dm_grammar.specs.Grammar.{Grammar, Letter}
 use Rattle.dm_grammar.specs.Grammar as grammar
 use Rattle.dm_dump.specs.declared.terminal.TheConstants as terminal
 use Rattle.dm_dump.specs.declared.class.TheConstants as class
 use Rattle.dm_dump.specs.declared.role.TheConstants as role
-use Rattle.dm_dump.specs.Terminals.{is_passed, is_truth, is_introducer, terminal_of_word, in_class}
+use Rattle.dm_dump.specs.Terminals.{in_class}
 use Rattle.dm_dump.specs.Productions as rule
-use Rattle.dm_reread.specs.Parts.{Part, Blank, Piece, Spelling, spelled, word, mark, name_part, behind_comma, comma_parts, value_parts, all_value_parts, tuple_parts}
+use Rattle.dm_reread.specs.Parts.{Part, Spelling, spelled, behind_comma, comma_parts, value_parts, all_value_parts}
 use Rattle.dm_reread.specs.Read.{IsRead, Null, Literal, Minus, is_literal}
 use Rattle.dm_reread.proofs.Laws.{spelled_of_both}
 use Rattle.dm_write.proofs.Speaking.{Speaks, nothing, word as a_word, both, before, one, other, passing, no_more, more, single, listed}

@@ -1,20 +1,18 @@
 -- What stands in a written dump: its text, its parts, and its rows at their places.
-use Rattle.std.proofs.Common.{◌≡◌, ◌==◌, ◌+◌, ◌<◌, ◌^◌, ℕ, zero, suc, Bool, true, false, ◌&&◌, ltb, List, [], ◌∷◌, ◌++◌, map, drop, length, Some, refl, sym, ap, ◌∙◌, subst, arith, append_assoc, append-nil}
-use Rattle.std.specs.Prelude.{⊤, codes, slice_get}
+use Rattle.std.proofs.Common.{◌≡◌, ◌+◌, ◌^◌, ℕ, zero, suc, true, ltb, List, [], ◌∷◌, ◌++◌, map, drop, length, Some, refl, sym, ap, ◌∙◌, subst, arith, append_assoc}
+use Rattle.std.specs.Prelude.{codes, slice_get}
 use Rattle.std.specs.List.{flat_map, list_all}
 use Rattle.std.proofs.lemmas.Bool.{and_parts}
-use Rattle.std.proofs.lemmas.Bool.Decides.{nat_tests}
 use Rattle.std.proofs.lemmas.List.{length-append}
 use Rattle.dm_value.specs.declared.value.Value.{Value}
 use Rattle.dm_schema.specs.declared.column.Column.{Column}
 use Rattle.dm_schema.specs.Layout.{Layout}
-use Rattle.dm_text.specs.Names.{quoted, with_commas}
+use Rattle.dm_text.specs.Names.{quoted}
 use Rattle.dm_text.specs.Values.{tuple_text}
 use Rattle.dm_text.specs.Columns.{create_text}
-use Rattle.dm_lex.specs.declared.token.Token.{Token}
 use Rattle.dm_lex.specs.Tokens.{lexed}
 use Rattle.dm_dump.specs.declared.literal.Waiting.TheVariants as waiting
-use Rattle.dm_dump.specs.Literals.{has_bracket, literals_at, literals_from, values_of}
+use Rattle.dm_dump.specs.Literals.{has_bracket, literals_from, values_of}
 use Rattle.dm_reread.specs.Parts.{Part, Blank, text_of, tokens_from, word, mark, name_part, name_item, behind_comma, tuple_parts, is_spelled, is_spelled_before, has_bytes, default_has_bytes, create_parts}
 use Rattle.dm_reread.proofs.Laws.{text_of_both, both_are_spelled, tuple_is_spelled, tuple_is_written, name_is_written, create_is_written, create_is_spelled, name_is_spelled, name_before}
 use Rattle.dm_write.specs.Dumps.{tuples_text, insert_text, rows_text, dump_text}
@@ -125,9 +123,10 @@ further_stand : (text : List ℕ) (cs : List Column) (at : ℕ) (rows : List (Li
 further_stand text cs at [] rest short read s = tt
 further_stand text cs at (row ∷ rows) rest short read s =
     let parts : (tuple_parts cs row ++ further_parts cs rows) ++ rest ≡ tuple_parts cs row ++ (further_parts cs rows ++ rest) = append_assoc (tuple_parts cs row) (further_parts cs rows) rest in
-    let here = past text at (mark 44) (tuple_parts cs row ++ (further_parts cs rows ++ rest)) (subst (λ (ps : List Part). Stands text at (mark 44 ∷ ps)) parts s) in
-    (row_stands text cs (at + 1) row (further_parts cs rows ++ rest) short read.0 here,
-    further_stand text cs (closed_at (at + 1) cs row + 1) rows rest short read.1 (behind_tuple text cs (at + 1) row (further_parts cs rows ++ rest) here))
+    let here = past text at (mark 44) (tuple_parts cs row ++ (further_parts cs rows ++ rest)) (subst (λ (ps : List Part). Stands text at (mark 44 ∷ ps)) parts s) in (
+      row_stands text cs (at + 1) row (further_parts cs rows ++ rest) short read.0 here,
+      further_stand text cs (closed_at (at + 1) cs row + 1) rows rest short read.1 (behind_tuple text cs (at + 1) row (further_parts cs rows ++ rest) here),
+    )
 
 -- the rows of a line stand at their places
 pub line_stands : (text table : List ℕ) (cs : List Column) (at : ℕ) (row : List Value) (rows : List (List Value)) → ltb (length text) (2 ^ 32) ≡ true → AreRead cs row → RowsAreRead cs rows → Stands text at (insert_parts table cs row rows)
@@ -138,6 +137,7 @@ line_stands text table cs at row rows short read more s =
     let named = past text (at + 6 + 1 + 4) (Blank 32) _ (past text (at + 6 + 1) (word (codes "INTO")) _ (past text (at + 6) (Blank 32) _ (past text at (word (codes "INSERT")) _ s))) in
     let values = past text (name_at at + length (quoted table)) (Blank 32) _ (past text (name_at at) (name_part table) _ named) in
     let there : Stands text (rows_at at table) inner = past text (values_at at table + 6) (Blank 32) inner (past text (values_at at table) (word (codes "VALUES")) (Blank 32 ∷ inner) values) in
-    let here = subst (Stands text (rows_at at table)) parts there in
-    (row_stands text cs (rows_at at table) row (further_parts cs rows ++ line_end) short read here,
-    further_stand text cs (closed_at (rows_at at table) cs row + 1) rows line_end short more (behind_tuple text cs (rows_at at table) row (further_parts cs rows ++ line_end) here))
+    let here = subst (Stands text (rows_at at table)) parts there in (
+      row_stands text cs (rows_at at table) row (further_parts cs rows ++ line_end) short read here,
+      further_stand text cs (closed_at (rows_at at table) cs row + 1) rows line_end short more (behind_tuple text cs (rows_at at table) row (further_parts cs rows ++ line_end) here),
+    )

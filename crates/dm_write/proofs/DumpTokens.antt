@@ -1,5 +1,5 @@
 -- What the grammar of dumps sees of written tokens.
-use Rattle.std.proofs.Common.{◌≡◌, ℕ, true, List, [], ◌∷◌, refl, ap, ◌∙◌}
+use Rattle.std.proofs.Common.{◌≡◌, ℕ, true, List, ◌∷◌, refl, ap, ◌∙◌}
 use Rattle.dm_lex.specs.declared.token.Token.{Token}
 use Rattle.dm_lex.specs.declared.token.TokenKind.{TokenKind}
 use Rattle.dm_lex.specs.declared.token.TokenKind.TheVariants as token

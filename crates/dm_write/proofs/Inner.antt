@@ -1,6 +1,6 @@
 -- No token of a written CREATE TABLE before its end is a `;`.
-use Rattle.std.proofs.Common.{◌≡◌, ◌==◌, ◌&&◌, ℕ, Bool, true, false, not, cond, List, [], ◌∷◌, ◌++◌, map, refl, sym, ap, ◌∙◌, subst}
-use Rattle.std.specs.Prelude.{⊤, codes}
+use Rattle.std.proofs.Common.{◌≡◌, ◌==◌, ◌&&◌, ℕ, Bool, true, false, not, cond, List, [], ◌∷◌, ◌++◌, refl, sym, ap, ◌∙◌, subst}
+use Rattle.std.specs.Prelude.{codes}
 use Rattle.std.specs.List.{list_all, flat_map}
 use Rattle.std.proofs.lemmas.Bool.{and_parts}
 use Rattle.dm_value.specs.declared.value.Value.{Value}
@@ -18,12 +18,12 @@ use Rattle.dm_lex.specs.Literals.{is_word}
 use Rattle.dm_syntax.specs.declared.role.TheConstants as role
 use Rattle.dm_dump.specs.declared.terminal.TheConstants as terminal
 use Rattle.dm_dump.specs.Terminals.{is_passed, is_truth, is_introducer, terminal_of_word}
-use Rattle.dm_reread.specs.Parts.{Part, Spelling, spelled, value_parts}
+use Rattle.dm_reread.specs.Parts.{Part, spelled, value_parts}
 use Rattle.dm_reread.specs.Read.{IsRead, Null, Literal, Minus, is_literal}
 use Rattle.dm_write.proofs.Splitting.{all_both}
 use Rattle.dm_write.proofs.Signs as sign
 use Rattle.dm_write.proofs.Signs.{Sign, spellings}
-use Rattle.dm_write.proofs.StatementParts.{table_parts, statement_parts, statement_as}
+use Rattle.dm_write.proofs.StatementParts.{table_parts, statement_as}
 use Rattle.dm_write.proofs.CreateSentence.{DefaultIsRead, ColumnsAreRead}
 use Rattle.dm_write.proofs.DumpSentence.{is_inner}
 

@@ -1,18 +1,18 @@
 -- What the definitions of written keys say: their names and columns.
-use Rattle.std.proofs.Common.{◌≡◌, ◌==◌, ◌||◌, ◌&&◌, ℕ, Bool, true, false, not, cond, List, [], ◌∷◌, ◌++◌, map, length, Option, Some, None, refl, sym, ap, ◌∙◌, subst, append-nil}
-use Rattle.std.specs.Prelude.{⊤, codes}
-use Rattle.std.specs.List.{list_any, list_all, filter, flat_map}
+use Rattle.std.proofs.Common.{◌≡◌, ◌==◌, ◌||◌, ℕ, Bool, true, false, List, [], ◌∷◌, ◌++◌, map, length, refl, ap, ◌∙◌, append-nil}
+use Rattle.std.specs.Prelude.{codes}
+use Rattle.std.specs.List.{list_all, filter, flat_map}
 use Rattle.std.proofs.lemmas.Bool.{and_parts, eqb-true}
 use Rattle.std.proofs.lemmas.List.{map-append}
 use Rattle.dm_schema.specs.declared.column.UniqueKey.{UniqueKey}
-use Rattle.dm_schema.specs.Kinds.{is_folded, is_between}
+use Rattle.dm_schema.specs.Kinds.{is_folded}
 use Rattle.dm_syntax.specs.declared.role.TheConstants as role
 use Rattle.dm_ddl.specs.declared.keys.WrittenKey.{WrittenKey}
 use Rattle.dm_write.proofs.Splitting.{either_false, all_both, filter_both}
 use Rattle.dm_write.proofs.Signs as sign
 use Rattle.dm_write.proofs.Signs.{Sign}
-use Rattle.dm_write.proofs.Seen.{Seen, shown, has, folded, folded_first, all_folded}
-use Rattle.dm_write.proofs.Meaning.{key_name_of, named_of, over, uniques_of, primaries_of, unfit_of, key_from}
+use Rattle.dm_write.proofs.Seen.{Seen, shown, has, folded, all_folded}
+use Rattle.dm_write.proofs.Meaning.{over, uniques_of, primaries_of, key_from}
 use Rattle.dm_write.proofs.ColumnItems.{all_shown, only, lacks, folded_name_is_read}
 
 -- the columns of a key in brackets, and what stands behind them

@@ -1,5 +1,5 @@
 -- The two lines of a written dump, each read alone: a text of rows, and a text that creates the table.
-use Rattle.std.proofs.Common.{◌≡◌, ◌&&◌, ◌+◌, ◌<◌, ◌^◌, ℕ, Bool, true, false, ltb, leb, List, [], ◌∷◌, ◌++◌, length, Option, Some, None, Result, Ok, refl, sym, ap, ◌∙◌, subst, arith, append-nil}
+use Rattle.std.proofs.Common.{◌≡◌, ◌+◌, ◌<◌, ◌^◌, ℕ, true, ltb, leb, List, [], ◌∷◌, ◌++◌, length, Option, Some, None, Result, Ok, refl, ap, ◌∙◌, subst, arith, append-nil}
 use Rattle.std.specs.List.{list_all}
 use Rattle.std.specs.Cmp.Lexicographic.{pointwise}
 use Rattle.std.proofs.lemmas.Bool.Decides.{nat_tests}
@@ -11,7 +11,6 @@ use Rattle.dm_schema.specs.Fits.{fits}
 use Rattle.dm_schema.specs.Schemas.{is_formed}
 use Rattle.dm_text.specs.Names.{quoted}
 use Rattle.dm_text.specs.Columns.{create_text}
-use Rattle.dm_grammar.specs.Sentence.{roles_of}
 use Rattle.dm_dump.specs.declared.fault.DumpFault.{DumpFault}
 use Rattle.dm_dump.specs.declared.inserts.Inserts.{Inserts}
 use Rattle.dm_dump.specs.declared.outline.Span.{Span}
@@ -19,26 +18,25 @@ use Rattle.dm_dump.specs.declared.outline.Outline.{Outline}
 use Rattle.dm_dump.specs.declared.dump.Created.{Created}
 use Rattle.dm_dump.specs.Terminals.{in_class}
 use Rattle.dm_dump.specs.Productions as rule
-use Rattle.dm_dump.specs.Reading.{Contents, HasContents}
-use Rattle.dm_dump.specs.Units.{begins_unit, units}
+use Rattle.dm_dump.specs.Reading.{Contents}
+use Rattle.dm_dump.specs.Units.{units}
 use Rattle.dm_dump.specs.Orders.{is_order}
 use Rattle.dm_dump.specs.Outlines.{least, second_place, second_create, outline_of, HasOutline}
 use Rattle.dm_dump.specs.Rows.{gathered, unless_inserts, rows_of, HasRows}
 use Rattle.dm_dump.specs.Dumps.{bytes_in, SaysCreate}
 use Rattle.dm_dump.proofs.Laws as law
-use Rattle.dm_reread.specs.Parts.{text_of, tokens_from, default_has_bytes}
+use Rattle.dm_reread.specs.Parts.{text_of, default_has_bytes}
 use Rattle.dm_write.specs.Dumps.{rows_text}
 use Rattle.dm_write.specs.Lengths.{has_length}
 use Rattle.dm_write.specs.ReadBack.{HasInserts}
-use Rattle.dm_write.proofs.Placed.{Stands}
 use Rattle.dm_write.proofs.Speaking.{Speaks, nothing, both, one, no_more}
 use Rattle.dm_write.proofs.DumpSentence.{RowsAreRead, rows_letters, says_rows_line}
-use Rattle.dm_write.proofs.DumpPieces.{KeptPiece, kept_of, closed_at, rows_at, end_piece, line_end_at}
-use Rattle.dm_write.proofs.DumpRows.{further_units, insert_units, insert_split}
+use Rattle.dm_write.proofs.DumpPieces.{KeptPiece, closed_at, rows_at, end_piece, line_end_at}
+use Rattle.dm_write.proofs.DumpRows.{further_units, insert_split}
 use Rattle.dm_write.proofs.DumpStanding.{rows_parts, rows_written, rows_spelled, dump_parts, dump_written, HaveBytes}
 use Rattle.dm_write.proofs.DumpReading.{rows_kinds, contents_are}
-use Rattle.dm_write.proofs.DumpBack.{line_pieces, line_units, line_kept, the_inserts, line_places, rows_gathered, rows_at_places, the_span, the_outline, the_table, contents_known, outline_is, created_is, statement_in}
-use Rattle.dm_write.proofs.BackAgain.{Formed, formed_parts, rows_read, is_written}
+use Rattle.dm_write.proofs.DumpBack.{line_pieces, line_units, line_kept, the_inserts, rows_gathered, rows_at_places, the_span, contents_known, outline_is, created_is, statement_in}
+use Rattle.dm_write.proofs.BackAgain.{formed_parts, rows_read, is_written}
 
 -- A text of rows.
 
@@ -85,9 +83,11 @@ rows_read_back table layout rows formed fit bytes =
     let order = law.own_order layout formed in
     let read = rows_read layout.columns rows (formed_parts layout formed).columns fit bytes in
     subst (RowsBack table layout rows) (rows_written table layout.columns rows)
-    (λ short answer says.
-    (the_inserts 0 table layout rows, line_known table layout rows answer order read bytes (test_of _ short) says,
-    (rows_at_places (text_of (rows_parts table layout.columns rows)) table layout 0 rows (test_of _ short) order read (record { here = refl; spells = rows_spelled table layout.columns rows bytes }), refl)))
+    (λ short answer says. (
+      the_inserts 0 table layout rows,
+      line_known table layout rows answer order read bytes (test_of _ short) says,
+      (rows_at_places (text_of (rows_parts table layout.columns rows)) table layout 0 rows (test_of _ short) order read (record { here = refl; spells = rows_spelled table layout.columns rows bytes }), refl),
+    ))
 
 -- A text that creates the table.
 
@@ -103,6 +103,8 @@ create_read_back table layout formed lengths defaults few =
     let text : List ℕ = text_of (dump_parts table layout []) in
     let w = is_written layout [] formed lengths defaults refl refl few in
     subst (CreateBack table layout) (dump_written table layout [] ∙ append-nil (create_text (quoted table) layout))
-    (λ outline has.
-    (the_span table layout, has.2 ∙ ap (outline_of text) (contents_known table layout [] has.0 w has.1) ∙ outline_is text table layout [],
-    (λ created says. created_is (bytes_in text (the_span table layout)) table layout created says.0 w.layout defaults (statement_in table layout []) says.1 says.2)))
+    (λ outline has. (
+      the_span table layout,
+      has.2 ∙ ap (outline_of text) (contents_known table layout [] has.0 w has.1) ∙ outline_is text table layout [],
+      (λ created says. created_is (bytes_in text (the_span table layout)) table layout created says.0 w.layout defaults (statement_in table layout []) says.1 says.2),
+    ))

@@ -1,6 +1,6 @@
 -- What the definitions of a CREATE TABLE say, by what is seen of their pieces.
-use Rattle.std.proofs.Common.{◌≡◌, ◌==◌, ◌||◌, ◌&&◌, ℕ, Bool, true, false, not, cond, List, [], ◌∷◌, ◌++◌, map, fold, Option, Some, None, Result, refl, sym, ap, ◌∙◌, subst}
-use Rattle.std.specs.Option.{option_map, option_map_or, option_or}
+use Rattle.std.proofs.Common.{◌≡◌, ◌==◌, ◌||◌, ◌&&◌, ℕ, Bool, true, false, not, cond, List, [], ◌∷◌, ◌++◌, map, fold, Option, Some, None, Result, refl, sym, ap, ◌∙◌}
+use Rattle.std.specs.Option.{option_map}
 use Rattle.std.specs.Prelude.{option_and_then, is_none, unwrap_or, if◌then◌else◌}
 use Rattle.std.specs.List.{list_any, find, filter, flat_map}
 use Rattle.dm_value.specs.declared.value.Value.{Value}
@@ -16,14 +16,14 @@ use Rattle.dm_lex.specs.Literals.{literal_of}
 use Rattle.dm_syntax.specs.declared.piece.Piece.{Piece}
 use Rattle.dm_syntax.specs.declared.role.TheConstants as role
 use Rattle.dm_syntax.specs.declared.terminal.TheConstants as terminal
-use Rattle.dm_syntax.specs.Pieces.{bytes_of, first_with, has_role, begins, parts}
+use Rattle.dm_syntax.specs.Pieces.{first_with, has_role, begins, parts}
 use Rattle.dm_ddl.specs.declared.keys.WrittenKey.{WrittenKey}
-use Rattle.dm_ddl.specs.Bounds.{number_or, precision_in, is_in_range, is_out_of_range, excess_in, first_excess, items_of, item_roles}
+use Rattle.dm_ddl.specs.Bounds.{precision_in, is_in_range, is_out_of_range, excess_in, first_excess, items_of, item_roles}
 use Rattle.dm_ddl.specs.Types.{type_word, kind_in}
-use Rattle.dm_ddl.specs.Columns.{literal_in, last_of, last_default, rule_in, nullable_in, column_name, default_in, is_unfit, column_in, is_key_from, is_primary_column}
+use Rattle.dm_ddl.specs.Columns.{literal_in, last_default, rule_in, nullable_in, column_name, default_in, is_unfit, column_in, is_key_from}
 use Rattle.dm_ddl.specs.Keys.{key_parts, key_name, is_named, key_over, key_of_column, unique_keys, primary_keys}
-use Rattle.dm_ddl.specs.Creating.{columns_in, primaries_in, all_columns_of, named_behind, uniques_in, created, schema_with, schema_in}
-use Rattle.dm_write.proofs.Splitting.{find_map, any_map, parts_map}
+use Rattle.dm_ddl.specs.Creating.{columns_in, primaries_in, all_columns_of, named_behind, created, schema_with, schema_in}
+use Rattle.dm_write.proofs.Splitting.{any_map, parts_map}
 use Rattle.dm_write.proofs.Seen.{Seen, seen, all_seen, first_of, has, has_seen, first_seen, said_first, number_seen, number, number_or_seen, folded_first, folded_with_seen, all_folded, all_folded_seen, word_seen}
 
 -- Kinds.

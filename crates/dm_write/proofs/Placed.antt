@@ -1,5 +1,5 @@
 -- What stands in a text from a place on, as parts.
-use Rattle.std.proofs.Common.{◌≡◌, ℕ, ◌+◌, ◌-◌, true, ◌&&◌, List, [], ◌∷◌, ◌++◌, length, take, drop, refl, sym, ap, ◌∙◌, arith, append_assoc, append-nil, drop-drop, drop_at, take_at}
+use Rattle.std.proofs.Common.{◌≡◌, ℕ, ◌+◌, ◌-◌, true, List, [], ◌∷◌, ◌++◌, length, take, drop, refl, sym, ap, ◌∙◌, arith, drop-drop, drop_at, take_at}
 use Rattle.std.proofs.lemmas.Bool.{and_parts}
 use Rattle.std.proofs.lemmas.List.{length-append}
 use Rattle.dm_lex.specs.declared.token.Token.{Token}
@@ -7,8 +7,8 @@ use Rattle.dm_lex.specs.declared.token.TokenKind.{TokenKind}
 use Rattle.dm_lex.specs.Tokens.{lexed}
 use Rattle.dm_lex.specs.Lexemes.{is_blank, lexeme_of}
 use Rattle.dm_syntax.specs.Pieces.{bytes_of}
-use Rattle.dm_reread.specs.Parts.{Part, Blank, Piece, part_bytes, text_of, tokens_from, lexed_as, Spelling, spelling_of, is_piece, is_spelled_before, is_spelled}
-use Rattle.dm_reread.proofs.Laws.{text_of_both, parts_are_lexed}
+use Rattle.dm_reread.specs.Parts.{Part, Blank, Piece, part_bytes, text_of, lexed_as, Spelling, spelling_of, is_piece, is_spelled}
+use Rattle.dm_reread.proofs.Laws.{parts_are_lexed}
 
 -- from the place on the text is that of the parts, and each of them is spelled
 pub record Stands (text : List ℕ) (at : ℕ) (parts : List Part) : Type 0 where

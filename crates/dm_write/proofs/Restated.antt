@@ -1,6 +1,5 @@
 -- A written CREATE TABLE is read as the CREATE TABLE of its table and schema.
-use Rattle.std.proofs.Common.{◌≡◌, ◌==◌, ◌||◌, ◌&&◌, ◌<◌, ℕ, Bool, true, false, not, cond, leb, List, [], ◌∷◌, ◌++◌, map, length, drop, All, Option, Some, None, Result, Ok, Err, refl, sym, ap, ◌∙◌, subst}
-use Rattle.std.specs.Prelude.{codes}
+use Rattle.std.proofs.Common.{◌≡◌, ◌==◌, ◌<◌, ℕ, Bool, true, false, cond, leb, List, [], ◌∷◌, ◌++◌, map, length, All, Option, None, Result, Ok, refl, ap, ◌∙◌, subst}
 use Rattle.std.specs.Option.{option_map, option_map_or}
 use Rattle.std.specs.List.{list_any, list_all, filter, find}
 use Rattle.dm_schema.specs.Layout.{Layout}
@@ -27,11 +26,11 @@ use Rattle.dm_syntax.proofs.Terminals.{kinds_small}
 use Rattle.dm_ddl.specs.declared.names.Named.{Named}
 use Rattle.dm_ddl.specs.declared.statements.Statement.{Statement}
 use Rattle.dm_ddl.specs.declared.statements.Statement.TheVariants as statement
-use Rattle.dm_ddl.specs.Names.{table_in, is_table_part, tables_in, first_of, first_table}
+use Rattle.dm_ddl.specs.Names.{table_in, is_table_part, first_of, first_table}
 use Rattle.dm_ddl.specs.Bounds.{items_of, item_roles, first_excess}
 use Rattle.dm_ddl.specs.Creating.{schema_in}
 use Rattle.dm_ddl.specs.Statements.{create_of, alters, alter_of, statement_of, unless_excess, statement_unless}
-use Rattle.dm_reread.specs.Parts.{Spelling, spelling_of, spelled}
+use Rattle.dm_reread.specs.Parts.{spelling_of, spelled}
 use Rattle.dm_reread.proofs.Laws.{name_is_read}
 use Rattle.dm_grammar.proofs.Uniqueness.{one_reading}
 use Rattle.dm_write.proofs.Splitting.{parts_map, part_last, all_both}

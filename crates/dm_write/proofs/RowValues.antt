@@ -1,5 +1,5 @@
 -- The literals of a written row, read from its bracket on, are its values.
-use Rattle.std.proofs.Common.{◌≡◌, ℕ, suc, ◌+◌, Bool, true, false, ◌&&◌, cond, List, [], ◌∷◌, ◌++◌, length, Option, Some, None, refl, sym, ap, ◌∙◌, subst, arith, append_assoc, append-nil}
+use Rattle.std.proofs.Common.{◌≡◌, ℕ, suc, ◌+◌, true, false, ◌&&◌, List, [], ◌∷◌, ◌++◌, length, Some, refl, sym, ap, ◌∙◌, subst, arith, append_assoc, append-nil}
 use Rattle.std.specs.Prelude.{⊤, codes}
 use Rattle.std.specs.List.{list_all, flat_map}
 use Rattle.std.specs.Cmp.Lexicographic.{pointwise}
@@ -16,10 +16,9 @@ use Rattle.dm_lex.specs.Literals.{literal_of}
 use Rattle.dm_syntax.specs.Pieces.{bytes_of}
 use Rattle.dm_dump.specs.declared.literal.Literal.{Literal}
 use Rattle.dm_dump.specs.declared.literal.Waiting.TheVariants as waiting
-use Rattle.dm_dump.specs.declared.terminal.TheConstants as terminal
 use Rattle.dm_dump.specs.Terminals.{terminal_of}
-use Rattle.dm_dump.specs.Literals.{is_literal, begun_with, stepped, literals_by, literals_from, if_fits, value_in, values_of}
-use Rattle.dm_reread.specs.Parts.{Part, Piece, text_of, tokens_from, word, mark, behind_comma, comma_parts, value_parts, all_value_parts, has_bytes}
+use Rattle.dm_dump.specs.Literals.{is_literal, literals_from, value_in, values_of}
+use Rattle.dm_reread.specs.Parts.{Part, Piece, text_of, tokens_from, mark, behind_comma, comma_parts, value_parts, all_value_parts, has_bytes}
 use Rattle.dm_reread.specs.Read.{IsRead, Null, Literal as Literally, Minus}
 use Rattle.dm_reread.proofs.Laws.{value_is_read}
 use Rattle.dm_write.proofs.Placed.{Stands, past, past_all, token_at, bytes_at}

@@ -1,32 +1,21 @@
 -- What pieces say, by what is seen of them: their tokens' kinds and bytes, without their places.
-use Rattle.std.proofs.Common.{◌≡◌, ◌==◌, ◌||◌, ◌&&◌, ℕ, Bool, true, false, not, cond, List, [], ◌∷◌, ◌++◌, map, fold, drop, Option, Some, None, refl, sym, ap, ◌∙◌, subst}
+use Rattle.std.proofs.Common.{◌≡◌, ◌==◌, ℕ, Bool, List, [], ◌∷◌, map, drop, Option, Some, None, refl, ap, ◌∙◌}
 use Rattle.std.specs.Option.{option_map, option_map_or}
-use Rattle.std.specs.Prelude.{option_and_then, is_none, unwrap_or, if◌then◌else◌}
-use Rattle.std.specs.List.{list_any, find, filter, flat_map, zip}
-use Rattle.dm_value.specs.declared.value.Value.{Value}
-use Rattle.dm_schema.specs.declared.column.Kind.{Kind}
-use Rattle.dm_schema.specs.declared.column.Column.{Column}
-use Rattle.dm_schema.specs.declared.column.DefaultRule.{DefaultRule}
-use Rattle.dm_schema.specs.declared.column.DefaultRule.TheVariants as default
-use Rattle.dm_schema.specs.Effect.{is_among, rule_by}
+use Rattle.std.specs.List.{list_any, find, filter}
 use Rattle.dm_time.specs.Texts.{number_of}
 use Rattle.dm_lex.specs.declared.token.Token.{Token}
 use Rattle.dm_lex.specs.declared.token.TokenKind.{TokenKind}
 use Rattle.dm_lex.specs.declared.token.TokenKind.TheVariants as token
-use Rattle.dm_lex.specs.Literals.{lower, literal_of}
+use Rattle.dm_lex.specs.Literals.{lower}
 use Rattle.dm_syntax.specs.declared.piece.Piece.{Piece}
 use Rattle.dm_syntax.specs.declared.role.TheConstants as role
 use Rattle.dm_syntax.specs.declared.terminal.TheConstants as terminal
 use Rattle.dm_syntax.specs.Parsing.{kinds_of}
-use Rattle.dm_syntax.specs.Pieces.{bytes_of, terminal_of, pieces_of, first_with, has_role, begins, parts}
+use Rattle.dm_syntax.specs.Pieces.{terminal_of, pieces_of, first_with, has_role}
 use Rattle.dm_syntax.specs.Names.{unquoted, name_of, folded_name, folded_with, all_folded_with, name_with}
-use Rattle.dm_ddl.specs.declared.keys.WrittenKey.{WrittenKey}
-use Rattle.dm_ddl.specs.Bounds.{held, number_in, number_or, precision_in, is_in_range, is_out_of_range, excess_in}
-use Rattle.dm_ddl.specs.Types.{type_word, kind_in}
-use Rattle.dm_ddl.specs.Columns.{literal_in, last_of, last_default, rule_in, nullable_in, column_name, default_in, is_unfit, column_in, is_key_from, is_primary_column}
-use Rattle.dm_ddl.specs.Keys.{key_parts, key_name, is_named, unique_keys, primary_keys}
+use Rattle.dm_ddl.specs.Bounds.{held, number_in, number_or}
 use Rattle.dm_reread.specs.Parts.{Spelling, spelling_of}
-use Rattle.dm_write.proofs.Splitting.{find_map, any_map, parts_map, filter_map}
+use Rattle.dm_write.proofs.Splitting.{find_map, any_map, filter_map}
 use Rattle.dm_write.proofs.StatementTokens.{terminal_seen, seen_as}
 use Rattle.dm_write.proofs.Signs.{Sign, spellings}
 

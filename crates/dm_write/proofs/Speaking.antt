@@ -2,8 +2,8 @@
 use Rattle.std.proofs.Common.{◌≡◌, ◌==◌, ℕ, suc, false, true, inl, inr, List, [], ◌∷◌, ◌++◌, refl, ap, subst}
 use Rattle.std.proofs.lemmas.List.{append-nil}
 use Rattle.std.proofs.lemmas.Bool.{eqb-false}
-use Rattle.dm_grammar.specs.Grammar.{Grammar, Empty, Word, Seq, Or, Many, Membership, Letter, Repeats, Spells, unsupported}
-use Rattle.dm_grammar.specs.Meaning.{list, more_items}
+use Rattle.dm_grammar.specs.Grammar.{Grammar, Empty, Word, Seq, Or, Many, Membership, Letter, Spells, unsupported}
+use Rattle.dm_grammar.specs.Meaning.{list}
 use Rattle.dm_grammar.specs.Sentence.{kinds_of, roles_of, AllSupported, IsSentence}
 
 -- the grammar spells the letters, and all of them are supported

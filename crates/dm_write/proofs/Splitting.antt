@@ -1,7 +1,7 @@
 -- Lists that are split at the elements that pass a test, and what is found in lists that stand behind one another.
-use Rattle.std.proofs.Common.{◌≡◌, ◌==◌, ◌||◌, ◌&&◌, ◌+◌, ℕ, suc, Bool, true, false, cond, List, [], ◌∷◌, ◌++◌, map, take, Option, Some, None, refl, sym, ap, ◌∙◌, subst, arith}
-use Rattle.std.specs.Option.{option_map, option_map_or, option_or}
-use Rattle.std.specs.List.{list_any, list_all, find, filter, flat_map, before_first, position_or_len}
+use Rattle.std.proofs.Common.{◌≡◌, ◌||◌, ◌+◌, suc, Bool, true, false, List, [], ◌∷◌, ◌++◌, map, None, refl, sym, ap, ◌∙◌, arith}
+use Rattle.std.specs.Option.{option_map}
+use Rattle.std.specs.List.{list_any, list_all, find, filter, before_first, position_or_len}
 use Rattle.std.proofs.lemmas.Bool.{and_parts}
 use Rattle.dm_syntax.specs.Pieces.{parts}
 

@@ -12,7 +12,7 @@ use Rattle.dm_schema.specs.declared.column.DefaultRule.TheVariants as default
 use Rattle.dm_schema.specs.Layout.{Layout}
 use Rattle.dm_text.specs.Kinds.{fraction_digits}
 use Rattle.dm_syntax.specs.declared.role.TheConstants as role
-use Rattle.dm_reread.specs.Parts.{Part, Blank, Spelling, spelled, text_of, is_spelled, is_spelled_before, word, mark, number, bracketed, behind_comma, name_part, name_item, name_list_parts, value_parts, default_has_bytes, kind_parts, fraction_parts, nullable_parts, default_parts, column_parts, column_item, primary_parts, unique_item, layout_parts, create_parts}
+use Rattle.dm_reread.specs.Parts.{Part, Blank, Spelling, spelled, text_of, is_spelled, word, mark, number, bracketed, behind_comma, name_part, name_item, name_list_parts, value_parts, default_has_bytes, kind_parts, fraction_parts, nullable_parts, default_parts, column_parts, column_item, primary_parts, unique_item, layout_parts, create_parts}
 use Rattle.dm_reread.proofs.Laws.{spelled_of_both, both_are_spelled, name_is_spelled, layout_is_spelled}
 use Rattle.dm_write.proofs.Signs as sign
 use Rattle.dm_write.proofs.Signs.{Sign, spellings}

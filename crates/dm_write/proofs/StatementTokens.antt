@@ -1,5 +1,5 @@
 -- What the grammar of statements sees of written tokens.
-use Rattle.std.proofs.Common.{◌≡◌, ◌==◌, ℕ, Bool, true, false, ◌&&◌, ◌||◌, cond, List, [], ◌∷◌, refl, sym, ap, ◌∙◌}
+use Rattle.std.proofs.Common.{◌≡◌, ◌==◌, ℕ, Bool, true, false, ◌||◌, List, [], ◌∷◌, refl, sym, ap, ◌∙◌}
 use Rattle.std.specs.List.{list_any, list_all}
 use Rattle.std.specs.Fmt.{decimal}
 use Rattle.std.proofs.lemmas.Bool.{and_parts, eqb-true}
@@ -10,7 +10,7 @@ use Rattle.dm_lex.specs.Lexemes.{is_digit}
 use Rattle.dm_syntax.specs.declared.terminal.TheConstants as terminal
 use Rattle.dm_syntax.specs.Words.{terminal_of_word}
 use Rattle.dm_syntax.specs.Pieces.{terminal_of_number, terminal_of_mark, terminal_of}
-use Rattle.dm_reread.specs.Parts.{Part, Piece, Spelling, spelling_of}
+use Rattle.dm_reread.specs.Parts.{Spelling, spelling_of}
 use Rattle.dm_reread.proofs.Laws.{decimal_is_digits}
 
 abbrev pub terminal_seen : Spelling → ℕ

@@ -1,5 +1,5 @@
 -- The lengths of kinds that no schema bounds.
-use Rattle.std.specs.Prelude.{ℕ, Bool, true, nat_le}
+use Rattle.std.specs.Prelude.{Bool, true, nat_le}
 use Rattle.dm_schema.specs.declared.column.Kind.{Kind}
 use Rattle.dm_schema.specs.declared.column.Kind.TheVariants as kind
 
