@@ -1,6 +1,7 @@
 -- The dump of a table: a file that creates it, and files with its rows.
-use Rattle.std.specs.Prelude.{◌≡◌, ℕ, ◌+◌, Bool, true, false, List, [], ◌∷◌, length, Option, Some, None, Result, Ok, Err}
+use Rattle.std.specs.Prelude.{◌≡◌, ⊤, ℕ, ◌+◌, Bool, true, false, List, [], ◌∷◌, length, Option, Some, None, Result, Ok, Err}
 use Rattle.std.specs.Option.{option_map}
+use Rattle.std.specs.List.{list_all}
 use Rattle.dm_syntax.specs.declared.fault.DdlFault.{DdlFault}
 use Rattle.dm_syntax.specs.declared.parsing.Extent.TheVariants as extent
 use Rattle.dm_syntax.specs.Parsing.{Says}
@@ -17,8 +18,8 @@ use Rattle.dm_dump.specs.declared.outline.Outline.{Outline}
 use Rattle.dm_dump.specs.declared.inserts.Inserts.{Inserts}
 use Rattle.dm_dump.specs.declared.dump.Created.{Created}
 use Rattle.dm_dump.specs.Outlines.{least, HasOutline}
-use Rattle.dm_dump.specs.Rows.{HasRows}
-use Rattle.dm_dump.specs.Dumps.{bytes_in, create_fault, created_by}
+use Rattle.dm_dump.specs.Rows.{HasRows, are_readable}
+use Rattle.dm_dump.specs.Dumps.{bytes_in, lower, create_fault, created_by}
 use Rattle.dm_task.specs.declared.task.SourceTable.{SourceTable}
 use Rattle.dm_files.specs.declared.files.NamedFile.{NamedFile}
 use Rattle.dm_files.specs.Files.{bytes_of}
@@ -49,23 +50,15 @@ abbrev pub schema_unless : Option Fault → Layout → Result Layout Fault
 schema_unless None layout = Ok layout
 schema_unless (Some f) layout = Err f
 
--- the one of the lower place
-abbrev pub lower : Option Fault → Fault → Result Layout Fault
-lower None f = Err f
-lower (Some e) f = by (least (Some e) (Some f)) where
-  by : Option Fault → Result Layout Fault
-  by None = Err f
-  by (Some first) = Err first
-
 -- the schema that its CREATE TABLE says
 abbrev pub schema_by : Outline → Span → Option Created → Result Layout Fault
-schema_by outline span None = lower (least outline.fault (insert_fault outline)) (create_fault span outline.fault)
+schema_by outline span None = Err (lower (least outline.fault (insert_fault outline)) (create_fault span outline.fault))
 schema_by outline span (Some created) = schema_unless (least outline.fault (insert_fault outline)) created.schema
 
 abbrev pub schema_with : DumpReadings → List ℕ → Outline → Result Layout Fault
 schema_with r text outline = by outline.create where
   by : Option Span → Result Layout Fault
-  by None = lower (least outline.fault (insert_fault outline)) (record { at = length text; cause = cause.NoCreate })
+  by None = Err (lower (least outline.fault (insert_fault outline)) (record { at = length text; cause = cause.NoCreate }))
   by (Some span) = schema_by outline span (created_by (r.statement (bytes_in text span)))
 
 -- the schema that a file creates, or its fault of the least place
@@ -82,11 +75,7 @@ create_place outline = option_map (λ span. record { at = span.from; cause = cau
 abbrev pub rows_unless : Option Fault → Result Inserts DumpFault → Result Inserts Fault
 rows_unless None (Ok inserts) = Ok inserts
 rows_unless (Some f) (Ok inserts) = Err f
-rows_unless None (Err (dump.At at cause)) = Err (record { at = at; cause = cause })
-rows_unless (Some f) (Err (dump.At at cause)) = by (least (Some f) (Some (record { at = at; cause = cause }))) where
-  by : Option Fault → Result Inserts Fault
-  by None = Err f
-  by (Some first) = Err first
+rows_unless early (Err (dump.At at cause)) = Err (lower early (record { at = at; cause = cause }))
 rows_unless None (Err dump.Memory) = Ok (record { places = []; orders = [] })
 rows_unless (Some f) (Err dump.Memory) = Err f
 
@@ -121,3 +110,19 @@ snapshot_by r files table number (Ok layout) = with_schema layout (rows_from r f
 -- the dump of a table whose first file has this number, or the first file's fault that has one
 abbrev pub snapshot_of : DumpReadings → List NamedFile → SourceTable → ℕ → Result Snapshot SnapshotFault
 snapshot_of r files table number = snapshot_by r files table number (schema_in r (bytes_of files number))
+
+-- What a call answers.
+
+abbrev pub is_memory : SnapshotFault → Bool
+is_memory fault.Memory = true
+is_memory (fault.Dump file at cause) = false
+
+-- what a call answered of one file is what was expected, or there was no memory
+abbrev pub AnswersFile : {A : Type 0} → Result A DumpFault → Result A Fault → Type 0
+AnswersFile (Ok value) expected = Ok value ≡ expected
+AnswersFile (Err (dump.At at cause)) expected = Err (record { at = at; cause = cause }) ≡ expected
+AnswersFile (Err dump.Memory) expected = ⊤
+
+-- at each place of the snapshot's rows stands a row, in the order of literals in force there
+abbrev pub is_readable : List NamedFile → Snapshot → Bool
+is_readable files snapshot = list_all (λ f. are_readable (bytes_of files f.number) snapshot.schema f.inserts) snapshot.files

@@ -1,6 +1,7 @@
 use dm_dump::{DumpCause, Inserts};
 use dm_list::{Bytes, Sequence};
 use dm_schema::Schema;
+use std::alloc::AllocFailed;
 
 /// The rows of one file of a table's dump.
 #[derive(Debug, Drop)]
@@ -28,4 +29,15 @@ pub enum SnapshotFault {
         cause: DumpCause,
     },
     Memory,
+}
+
+impl<T: Drop> From<AllocFailed<T>> for SnapshotFault {
+    ghost use Rattle.std.specs.Prelude.{◌≡◌};
+    ghost use Rattle.dm_snapshot.specs.declared.snapshot.SnapshotFault.TheVariants.{Memory};
+
+    ghost from_gives = { λ _ fault. fault ≡ Memory };
+
+    fn from(_: AllocFailed<T>) -> SnapshotFault {
+        SnapshotFault::Memory
+    }
 }
