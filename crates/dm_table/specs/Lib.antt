@@ -1,0 +1,4 @@
+pub mod Contents
+pub mod Ops
+pub mod Altering
+pub mod Answers
