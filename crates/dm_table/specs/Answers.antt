@@ -1,5 +1,5 @@
 -- What a change of a table answers: it happens whole, or not at all.
-use Rattle.std.specs.Prelude.{◌≡◌, ⊤, Bool, true, false, Result, Ok, Err, MatchBool, Unit}
+use Rattle.std.specs.Prelude.{◌≡◌, ⊤, Bool, true, false, Result, Ok, Err, MatchBool}
 use Rattle.dm_table.specs.declared.op.TableFault.{TableFault}
 use Rattle.dm_table.specs.declared.op.TableFault.TheVariants as fault
 use Rattle.dm_table.specs.Contents.{TableContent}

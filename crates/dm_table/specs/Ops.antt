@@ -174,13 +174,14 @@ rows_left layout o rows = by o where
 unfoldable pub applied : Layout → RowOp → RowMap → Result RowMap TableFault
 applied layout o rows = unless_refused (first_refusal (op_refusals layout o rows)) (rows_left layout o rows)
 
+abbrev pub and_then : (RowMap → Result RowMap TableFault) → Result RowMap TableFault → Result RowMap TableFault
+and_then next (Ok rows) = next rows
+and_then next (Err f) = Err f
+
 -- the rows after ops in order, or the fault of the first that has one
 abbrev pub all_applied : Layout → List RowOp → RowMap → Result RowMap TableFault
 all_applied layout [] rows = Ok rows
-all_applied layout (o ∷ ops) rows = by (applied layout o rows) where
-  by : Result RowMap TableFault → Result RowMap TableFault
-  by (Ok after) = all_applied layout ops after
-  by (Err f) = Err f
+all_applied layout (o ∷ ops) rows = and_then (all_applied layout ops) (applied layout o rows)
 
 abbrev pub with_rows : Layout → Result RowMap TableFault → Result TableContent TableFault
 with_rows layout (Ok rows) = Ok (record { layout = layout; rows = rows })

@@ -83,15 +83,18 @@ with_history (Err f) behind = Err f
 with_history (Ok h) (Err f) = Err f
 with_history (Ok h) (Ok hs) = Ok (h ∷ hs)
 
--- the histories of tables, of which those that are no shards have none; the first table's first file has this number
+-- the history of a table, if it is a shard, and those behind it; its first file has this number
+abbrev pub with_table : Readings → List NamedFile → List Text → Rules → Log → ℕ → SourceTable → Option Shard → Result (List History) BuildFault → Result (List History) BuildFault
+with_table r files names rules log number table None behind = behind
+with_table r files names rules log number table (Some shard) behind =
+    with_history (history_by r names rules log shard (snapshot_of r.dumps files table number)) behind
+
+-- the histories of a source's tables; the first table's first file has this number
 abbrev pub table_histories : Readings → List NamedFile → List Text → Rules → Log → Text → ℕ → List SourceTable → Result (List History) BuildFault
 table_histories r files names rules log source number [] = Ok []
-table_histories r files names rules log source number (table ∷ tables) = by (shard_of rules source table) where
-  behind : Result (List History) BuildFault
-  behind = table_histories r files names rules log source (number + length (table_files table)) tables
-  by : Option Shard → Result (List History) BuildFault
-  by None = behind
-  by (Some shard) = with_history (history_by r names rules log shard (snapshot_of r.dumps files table number)) behind
+table_histories r files names rules log source number (table ∷ tables) =
+    with_table r files names rules log number table (shard_of rules source table)
+    (table_histories r files names rules log source (number + length (table_files table)) tables)
 
 -- the histories of a source's shards
 abbrev pub source_histories : Readings → List NamedFile → List Text → Rules → ℕ → Source → Result (List History) BuildFault
