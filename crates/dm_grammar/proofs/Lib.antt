@@ -4,5 +4,6 @@ pub mod Productive
 pub mod Readiness
 pub mod Tokens
 pub mod Exact
+pub mod Uniqueness
 pub mod PendingRest
 pub mod Prepend

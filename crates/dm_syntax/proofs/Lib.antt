@@ -1,4 +1,5 @@
 pub mod Answering
+pub mod Uniqueness
 pub mod Folding
 pub mod PartsLemmas
 pub mod Ready
