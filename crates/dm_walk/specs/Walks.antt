@@ -19,7 +19,7 @@ use Rattle.dm_decode.specs.Rows.{row_of}
 use Rattle.dm_syntax.specs.declared.fault.DdlFault.{DdlFault}
 use Rattle.dm_ddl.specs.declared.names.Named.{Named}
 use Rattle.dm_ddl.specs.declared.heads.Head.{Head}
-use Rattle.dm_ddl.specs.declared.heads.Head.TheVariants as head
+use Rattle.dm_ddl.specs.declared.heads.Head.TheVariants as heads
 use Rattle.dm_ddl.specs.declared.statements.Statement.{Statement}
 use Rattle.dm_ddl.specs.declared.statements.Statement.TheVariants as statement
 use Rattle.dm_ddl.specs.Defaults.{default_value_of}
@@ -30,8 +30,6 @@ use Rattle.dm_route.specs.declared.event_kind.EventKind.{EventKind}
 use Rattle.dm_route.specs.declared.event_kind.EventKind.TheVariants as kind
 use Rattle.dm_route.specs.declared.rules.Rules.{Rules}
 use Rattle.dm_route.specs.Rules.{ignores}
-use Rattle.dm_snapshot.specs.declared.snapshot.RowsFile.{RowsFile}
-use Rattle.dm_snapshot.specs.declared.snapshot.Snapshot.{Snapshot}
 use Rattle.dm_stream.specs.declared.cause.BadCause.{BadCause}
 use Rattle.dm_stream.specs.declared.cause.BadCause.TheVariants as cause
 use Rattle.dm_stream.specs.declared.event.LogFault.{LogFault}
@@ -140,15 +138,15 @@ statement_kind own db head = by head where
   if_named kind true = Some kind
   if_named kind false = None
   by : Head → Option EventKind
-  by (head.Create table only_new) = if_named kind.CreateTable (is_named own db table)
-  by (head.Alter table) = if_named kind.AlterTable (is_named own db table)
-  by (head.CreateIndex table) = if_named kind.CreateIndex (is_named own db table)
-  by (head.DropIndex table) = if_named kind.DropIndex (is_named own db table)
-  by (head.DropTable tables) = if_named kind.DropTable (are_named own db tables)
-  by (head.Truncate table) = if_named kind.Truncate (is_named own db table)
-  by (head.Rename tables) = if_named kind.Rename (are_named own db tables)
-  by head.RowStatement = None
-  by head.NotTable = None
+  by (heads.Create table only_new) = if_named kind.CreateTable (is_named own db table)
+  by (heads.Alter table) = if_named kind.AlterTable (is_named own db table)
+  by (heads.CreateIndex table) = if_named kind.CreateIndex (is_named own db table)
+  by (heads.DropIndex table) = if_named kind.DropIndex (is_named own db table)
+  by (heads.DropTable tables) = if_named kind.DropTable (are_named own db tables)
+  by (heads.Truncate table) = if_named kind.Truncate (is_named own db table)
+  by (heads.Rename tables) = if_named kind.Rename (are_named own db tables)
+  by heads.RowStatement = None
+  by heads.NotTable = None
 
 abbrev pub statement_item : Logged → Item
 statement_item e = item.Ddl (record { file = e.file.number; at = e.event.at; event = e.event.at; map = 0; kind = place.Statement })
@@ -169,15 +167,15 @@ altered e (Ok statement.Other) t = t
 abbrev pub with_ddl : Statements → Logged → Head → Text → Track → Track
 with_ddl statements e head text t = by head where
   by : Head → Track
-  by (head.Create table only_new) = if only_new then t else ended cause.Unsupported e t
-  by (head.Alter table) = altered e (statements text) t
-  by (head.CreateIndex table) = altered e (statements text) t
-  by (head.DropIndex table) = altered e (statements text) t
-  by (head.DropTable tables) = ended cause.Unsupported e t
-  by (head.Truncate table) = ended cause.Unsupported e t
-  by (head.Rename tables) = ended cause.Unsupported e t
-  by head.RowStatement = t
-  by head.NotTable = t
+  by (heads.Create table only_new) = if only_new then t else ended cause.Unsupported e t
+  by (heads.Alter table) = altered e (statements text) t
+  by (heads.CreateIndex table) = altered e (statements text) t
+  by (heads.DropIndex table) = altered e (statements text) t
+  by (heads.DropTable tables) = ended cause.Unsupported e t
+  by (heads.Truncate table) = ended cause.Unsupported e t
+  by (heads.Rename tables) = ended cause.Unsupported e t
+  by heads.RowStatement = t
+  by heads.NotTable = t
 
 -- The walk.
 
@@ -205,18 +203,6 @@ with_end fault t = if is_some t.fault then t else with_fault fault t
 -- a history behind all events of its source
 abbrev pub walked : Statements → Rules → Log → Track → Track
 walked statements rules log t = with_end log.fault (fold (with_event statements rules) t log.events)
-
--- The rows of its dump.
-
-abbrev pub dumped_item : ℕ → ℕ → Item
-dumped_item number at = item.Row (record { file = number; at = at; event = 0; map = 0; kind = place.Dumped })
-
-abbrev pub dumped_items : RowsFile → List Item
-dumped_items file = map (dumped_item file.number) file.inserts.places
-
--- the history of a table with the rows of its dump alone, file by file
-abbrev pub begun : TableName → Snapshot → Track
-begun own snapshot = record { own = own; first = snapshot.schema; later = []; items = flat_map dumped_items snapshot.files; fault = None }
 
 -- What statements say, by their grammar.
 abbrev pub AreStatements : Statements → Type 0
