@@ -1,0 +1,4 @@
+pub mod Heads
+pub mod FileLemmas
+pub mod LogLemmas
+pub mod SaidLemmas

@@ -1,6 +1,5 @@
 -- The binlogs of a source: the events of its files in turn, up to the first fault of their framing.
-use Rattle.std.specs.Prelude.{◌≡◌, ⊤, ℕ, Bool, true, false, List, [], ◌∷◌, ◌++◌, Option, Some, None, Result}
-use Rattle.dm_syntax.specs.declared.fault.DdlFault.{DdlFault}
+use Rattle.std.specs.Prelude.{ℕ, Bool, true, false, List, [], ◌∷◌, ◌++◌, Option, Some, None}
 use Rattle.dm_syntax.specs.declared.parsing.Extent.TheVariants as extent
 use Rattle.dm_syntax.specs.Parsing.{Says}
 use Rattle.dm_ddl.specs.Heads.{head_unless}

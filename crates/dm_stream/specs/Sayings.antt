@@ -20,10 +20,10 @@ Heads = List ℕ → Result Head DdlFault
 
 -- what an event says
 pub data Said : Type 0 where
-  Nothing : Said                                          -- nothing that a shard asks for
-  Ends : BadCause → Said                                  -- each history of the source ends
-  Rows : Event → TableMap → RowsHead → Said               -- rows of a table; first the event of its table map
-  Statement : Head → List ℕ → List ℕ → Said               -- a statement on tables, the database that it was written in, its text
+  Nothing : Said  -- nothing that a shard asks for
+  Ends : BadCause → Said  -- each history of the source ends
+  Rows : Event → TableMap → RowsHead → Said  -- rows of a table; first the event of its table map
+  Statement : Head → List ℕ → List ℕ → Said  -- a statement on tables, the database that it was written in, its text
 
 -- PARTIAL_UPDATE_ROWS_EVENT
 abbrev pub partial_update_rows : ℕ

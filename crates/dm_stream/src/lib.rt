@@ -3,6 +3,13 @@
 
 mod cause;
 mod event;
+mod file;
+mod said;
+mod stream;
 
 pub use cause::BadCause;
 pub use event::{LogFault, LogFile, Logged, Said};
+pub use stream::Stream;
+
+#[cfg(test)]
+mod tests;
