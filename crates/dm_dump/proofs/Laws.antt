@@ -45,7 +45,7 @@ found_name (c ∷ cs) n h = by (same_name c.name n) refl h (found_name cs n) whe
   by true e h rest = ap (λ (m : Text). m ∷ []) (equal_names c.name n e)
   by false e h rest = rest h
 
-names_of_order : (columns : List Column) (order : List Text) → all_columns columns order ≡ true → column_names (columns_by columns order) ≡ order
+pub names_of_order : (columns : List Column) (order : List Text) → all_columns columns order ≡ true → column_names (columns_by columns order) ≡ order
 names_of_order columns [] h = refl
 names_of_order columns (n ∷ ns) h =
     let parts = and_parts (has_column columns n) (all_columns columns ns) h in
@@ -192,7 +192,7 @@ all_places text table columns (u ∷ us) g =
 abbrev pub Sound : List Column → List Column → Type 0
 Sound columns cs = (cs ≡ []) ⊎ InForce columns cs
 
-no_lack : (text : List ℕ) (columns : List Column) (u : List Piece) → is_order columns (column_names columns) ≡ true → lacks_column text columns u ≡ false → is_order columns (order_in text columns u) ≡ true
+pub no_lack : (text : List ℕ) (columns : List Column) (u : List Piece) → is_order columns (column_names columns) ≡ true → lacks_column text columns u ≡ false → is_order columns (order_in text columns u) ≡ true
 no_lack text columns u own h = by (has_role role.NAMES_CLOSE u) refl h where
   unnot : (b : Bool) → not b ≡ false → b ≡ true
   unnot true h = refl
@@ -202,7 +202,7 @@ no_lack text columns u own h = by (has_role role.NAMES_CLOSE u) refl h where
   by true e h = rw e (unnot _ (rw e at h))
   by false e h = rw e own
 
-fine_head : (text table : List ℕ) (columns : List Column) (u : List Piece) → head_fault text table columns u ≡ None → lacks_column text columns u ≡ false
+pub fine_head : (text table : List ℕ) (columns : List Column) (u : List Piece) → head_fault text table columns u ≡ None → lacks_column text columns u ≡ false
 fine_head text table columns u h = by (names_other text table u) (lacks_column text columns u) refl refl h where
   by : (o l : Bool) → names_other text table u ≡ o → lacks_column text columns u ≡ l → head_fault text table columns u ≡ None → l ≡ false
   by o false p q h = refl
@@ -219,12 +219,12 @@ head_sound text table columns g u own sound = by (head_fault text table columns 
   by (Some f) e = rw e sound
   by None e = rw e (ordered (stand_so g.columns (order_in text columns u)) (no_lack text columns u own (fine_head text table columns u e)) refl)
 
-row_columns : (text : List ℕ) (g : Gathered) (at : ℕ) (closed : Bool) (o : Option Fault) → row_fault text at closed g.columns ≡ o → (with_row text g at closed).columns ≡ g.columns
+pub row_columns : (text : List ℕ) (g : Gathered) (at : ℕ) (closed : Bool) (o : Option Fault) → row_fault text at closed g.columns ≡ o → (with_row text g at closed).columns ≡ g.columns
 row_columns text g at closed (Some f) e = rw e refl
 row_columns text g at true None e = rw e refl
 row_columns text g at false None e = rw e refl
 
-unit_sound : (text table : List ℕ) (columns : List Column) (g : Gathered) (u : List Piece) → is_order columns (column_names columns) ≡ true → Sound columns g.columns → Sound columns (with_unit text table columns g u).columns
+pub unit_sound : (text table : List ℕ) (columns : List Column) (g : Gathered) (u : List Piece) → is_order columns (column_names columns) ≡ true → Sound columns g.columns → Sound columns (with_unit text table columns g u).columns
 unit_sound text table columns g [] own sound = sound
 unit_sound text table columns g (p ∷ ps) own sound = by (is_some g.fault) (p.role == role.INSERT) (p.role == role.ROW_OPEN) where
   by : (f i r : Bool) → Sound columns (cond f g (cond i (with_head text table columns g (p ∷ ps)) (cond r (with_row text g p.token.from (has_role role.ROW_CLOSE (p ∷ ps))) g))).columns
@@ -278,7 +278,7 @@ all_own front (c ∷ cs) more =
     let here : has_column front c.name ≡ true = more c.name (ap (λ (b : Bool). b || has_column cs c.name) (nat_list_eq_equiv.refl c.name)) in
     rw here (all_own front cs (λ n h. more n (ap (λ (b : Bool). same_name c.name n || b) h ∙ or_true (same_name c.name n))))
 
-first_passes_not : {E : Type 0} (b : Bool) (e : E) (rest : List (Bool × E)) → is_none (first_refusal ((b, e) ∷ rest)) ≡ true → b ≡ false
+pub first_passes_not : {E : Type 0} (b : Bool) (e : E) (rest : List (Bool × E)) → is_none (first_refusal ((b, e) ∷ rest)) ≡ true → b ≡ false
 first_passes_not false e rest h = refl
 first_passes_not true e rest h = absurd cc
 
@@ -290,7 +290,7 @@ count_names : (columns : List Column) → length (column_names columns) ≡ leng
 count_names [] = refl
 count_names (c ∷ cs) = ap suc (count_names cs)
 
-own_order : (layout : Layout) → is_formed layout ≡ true → is_order layout.columns (column_names layout.columns) ≡ true
+pub own_order : (layout : Layout) → is_formed layout ≡ true → is_order layout.columns (column_names layout.columns) ≡ true
 own_order layout formed =
     let last = and_parts (list_all is_column layout.columns && list_all is_key layout.uniques && leb (length layout.uniques) 16) (is_none (first_refusal (refusals layout.columns layout.primary layout.uniques))) formed in
     let keys = key_repeats layout.uniques in

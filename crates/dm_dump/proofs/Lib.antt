@@ -2,7 +2,10 @@ pub mod Ready
 pub mod Small
 pub mod Columns
 pub mod Stream
+pub mod Uniqueness
 pub mod UnitLemmas
 pub mod OutlineLemmas
 pub mod DumpLemmas
+pub mod Leading
 pub mod Laws
+pub mod OrderLaws

@@ -1,5 +1,5 @@
 -- A dump that is loaded whole: one CREATE TABLE, and then its rows.
-use Rattle.std.specs.Prelude.{◌≡◌, ⊤, ℕ, ◌-◌, Bool, true, false, ◌&&◌, nat_lt, nat_le, List, length, take, drop, Option, Some, None, Result, Ok, Err, if◌then◌else◌}
+use Rattle.std.specs.Prelude.{◌≡◌, ⊤, ℕ, ◌-◌, Bool, false, ◌&&◌, nat_lt, nat_le, List, length, take, drop, Option, Some, None, Result, Ok, Err, if◌then◌else◌}
 use Rattle.dm_syntax.specs.declared.fault.DdlFault.{DdlFault}
 use Rattle.dm_syntax.specs.declared.fault.DdlFault.TheVariants as ddl
 use Rattle.dm_syntax.specs.declared.parsing.Extent.TheVariants as extent
@@ -8,7 +8,6 @@ use Rattle.dm_ddl.specs.declared.statements.Statement.{Statement}
 use Rattle.dm_ddl.specs.declared.statements.Statement.TheVariants as statement
 use Rattle.dm_ddl.specs.Statements.{statement_unless}
 use Rattle.dm_dump.specs.declared.fault.Fault.{Fault}
-use Rattle.dm_dump.specs.declared.fault.DumpCause.{DumpCause}
 use Rattle.dm_dump.specs.declared.fault.DumpCause.TheVariants as cause
 use Rattle.dm_dump.specs.declared.fault.DumpFault.{DumpFault}
 use Rattle.dm_dump.specs.declared.fault.DumpFault.TheVariants as fault
@@ -17,7 +16,7 @@ use Rattle.dm_dump.specs.declared.outline.Outline.{Outline}
 use Rattle.dm_dump.specs.declared.inserts.Inserts.{Inserts}
 use Rattle.dm_dump.specs.declared.dump.Dump.{Dump}
 use Rattle.dm_dump.specs.declared.dump.Created.{Created}
-use Rattle.dm_dump.specs.Outlines.{HasOutline}
+use Rattle.dm_dump.specs.Outlines.{is_lex, HasOutline}
 use Rattle.dm_dump.specs.Rows.{refused, unless, HasRows}
 
 -- What a call answered holds, or there was no memory.
@@ -50,17 +49,6 @@ early_insert outline = by outline.first_insert where
 -- there is no CREATE TABLE
 abbrev pub without_create : List ℕ → Outline → Fault
 without_create text outline = lower outline.fault (lower (early_insert outline) (record { at = length text; cause = cause.NoCreate }))
-
-abbrev pub is_lex : DumpCause → Bool
-is_lex cause.Lex = true
-is_lex cause.Statement = false
-is_lex cause.SecondCreate = false
-is_lex cause.Table = false
-is_lex cause.Columns = false
-is_lex cause.Count = false
-is_lex cause.Unfit = false
-is_lex cause.NoCreate = false
-is_lex cause.Create = false
 
 -- a lexical fault in the span
 abbrev pub tears : Span → Fault → Bool

@@ -1,7 +1,7 @@
 -- The order of a row's literals: names of columns.
-use Rattle.std.specs.Prelude.{ℕ, Bool, not, ◌==◌, ◌&&◌, List, length, Option, None, if◌then◌else◌}
+use Rattle.std.specs.Prelude.{ℕ, Bool, not, ◌==◌, ◌&&◌, nat_le, List, length, reverse, Option, None, option_and_then, if◌then◌else◌}
 use Rattle.std.specs.Option.{option_map, option_to_list}
-use Rattle.std.specs.List.{flat_map}
+use Rattle.std.specs.List.{flat_map, find}
 use Rattle.std.specs.Cmp.Lexicographic.{pointwise}
 use Rattle.dm_value.specs.declared.value.Value.{Value}
 use Rattle.dm_schema.specs.declared.column.Column.{Column}
@@ -9,6 +9,7 @@ use Rattle.dm_schema.specs.Layout.{Layout}
 use Rattle.dm_schema.specs.Names.{Text, same_name, column_at, column_names}
 use Rattle.dm_schema.specs.Rows.{values_at}
 use Rattle.dm_schema.specs.Schemas.{all_columns, names_repeat}
+use Rattle.dm_dump.specs.declared.inserts.InsertOrder.{InsertOrder}
 use Rattle.dm_dump.specs.Literals.{has_bracket, literals_at, values_of}
 
 -- each column once: so many names of columns, none of them twice
@@ -37,3 +38,11 @@ values_in text at order columns =
 -- the row whose bracket stands at a place
 abbrev pub row_of : List ℕ → ℕ → List Text → Layout → Option (List Value)
 row_of text at order layout = values_in text at order layout.columns
+
+-- the order of literals in force at a place: the last whose first row isn't behind it
+abbrev pub order_at : List InsertOrder → ℕ → Option InsertOrder
+order_at orders at = find (λ o. nat_le o.first at) (reverse orders)
+
+-- the row whose bracket stands at a place, in the order in force there
+abbrev pub row_in_force : List ℕ → List InsertOrder → Layout → ℕ → Option (List Value)
+row_in_force text orders layout at = option_and_then (λ o. row_of text at o.order layout) (order_at orders at)

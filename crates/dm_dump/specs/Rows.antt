@@ -1,6 +1,7 @@
 -- The rows of a dump's INSERTs.
 use Rattle.std.specs.Prelude.{◌≡◌, ℕ, Bool, true, false, not, ◌==◌, ◌&&◌, ◌||◌, List, [], ◌∷◌, ◌++◌, fold, length, Option, Some, None, Result, Ok, Err, is_some, if◌then◌else◌}
 use Rattle.std.specs.Option.{option_map, option_map_or}
+use Rattle.std.specs.List.{list_all}
 use Rattle.dm_schema.specs.declared.column.Column.{Column}
 use Rattle.dm_schema.specs.Layout.{Layout}
 use Rattle.dm_schema.specs.Names.{Text, same_name, column_names}
@@ -18,7 +19,7 @@ use Rattle.dm_dump.specs.Reading.{Contents, HasContents}
 use Rattle.dm_dump.specs.Units.{units}
 use Rattle.dm_dump.specs.Outlines.{least, second_place, second_create}
 use Rattle.dm_dump.specs.Literals.{literals_at, first_unfit}
-use Rattle.dm_dump.specs.Orders.{is_order, columns_by, stand_so}
+use Rattle.dm_dump.specs.Orders.{is_order, columns_by, stand_so, row_in_force}
 
 -- The head of an INSERT.
 
@@ -150,3 +151,7 @@ rows_of text table layout all =
 
 abbrev pub HasRows : List ℕ → List ℕ → Layout → Result Inserts DumpFault → Type 0
 HasRows text table layout answer = (all : Contents) × HasContents text all × (answer ≡ rows_of text table layout all)
+
+-- at each place stands a row, in the order of literals in force there
+abbrev pub are_readable : List ℕ → Layout → Inserts → Bool
+are_readable text layout inserts = list_all (λ at. is_some (row_in_force text inserts.orders layout at)) inserts.places

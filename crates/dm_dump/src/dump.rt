@@ -1,10 +1,10 @@
 ghost use Rattle.std.specs.Prelude.{◌≡◌, ◌<◌, ◌^◌, length, IfOk, IfErr, Some};
 ghost use Rattle.dm_dump.specs.declared.fault.DumpFault.TheVariants.{Memory};
-ghost use Rattle.dm_dump.specs.Dumps.{OrMemory, bytes_in, lower, precedes, early_insert, without_create, is_lex, tears, create_fault, without_schema, created_or_memory, SaysCreate, dump_of, HasTable, DumpBy, DumpWith, IsDump};
+ghost use Rattle.dm_dump.specs.Dumps.{OrMemory, bytes_in, lower, precedes, early_insert, without_create, tears, create_fault, without_schema, created_or_memory, SaysCreate, dump_of, HasTable, DumpBy, DumpWith, IsDump};
 
 use crate::fault::{DumpCause, DumpFault, Fault};
 use crate::inserts::Inserts;
-use crate::outline::{Outline, Span, read_outline};
+use crate::outline::{Outline, Span, is_lex, read_outline};
 use crate::reading_rows::{read_rows, refused};
 use dm_ddl::{Named, Statement, read_statement};
 use dm_schema::Schema;
@@ -28,7 +28,7 @@ pub struct Created {
 }
 
 /// The bytes of a span: none, where it isn't within the text.
-fn bytes_in(text: &[u8], span: Span) -> &[u8]
+pub fn bytes_in(text: &[u8], span: Span) -> &[u8]
     ensures { result.now ≡ bytes_in text.now span }
 {
     let from = text.len().min(span.from as usize);
@@ -41,7 +41,7 @@ fn bytes_in(text: &[u8], span: Span) -> &[u8]
 }
 
 /// Of two faults the one of the lower place.
-fn lower(one: Option<Fault>, other: Fault) -> Fault
+pub fn lower(one: Option<Fault>, other: Fault) -> Fault
     ensures { result ≡ lower one other }
 {
     match one {
@@ -86,22 +86,6 @@ fn without_create(text: &[u8], outline: &Outline) -> Fault
     lower(outline.fault, lower(early_insert(outline), none))
 }
 
-fn is_lex(cause: DumpCause) -> bool
-    ensures { result ≡ is_lex cause }
-{
-    match cause {
-        DumpCause::Lex => true,
-        DumpCause::Statement
-        | DumpCause::SecondCreate
-        | DumpCause::Table
-        | DumpCause::Columns
-        | DumpCause::Count
-        | DumpCause::Unfit
-        | DumpCause::NoCreate
-        | DumpCause::Create => false,
-    }
-}
-
 /// Whether a fault is a lexical one in the span.
 fn tears(span: Span, fault: Fault) -> bool
     ensures { result ≡ tears span fault }
@@ -109,7 +93,8 @@ fn tears(span: Span, fault: Fault) -> bool
     is_lex(fault.cause) && span.from <= fault.at && fault.at < span.to
 }
 
-fn create_fault(span: Span, fault: Option<Fault>) -> Fault
+/// The fault of a CREATE TABLE that says no schema: a lexical one, where it stands in the statement.
+pub fn create_fault(span: Span, fault: Option<Fault>) -> Fault
     ensures { result ≡ create_fault span fault }
 {
     let at = span.from;
@@ -152,7 +137,8 @@ fn created_by(said: Result<Statement, DdlFault>) -> Result<Option<Created>, Dump
     }
 }
 
-fn read_create(alloc: Global, text: &[u8]) -> Result<Option<Created>, DumpFault>
+/// The table that a statement creates, if it does.
+pub fn read_create(alloc: Global, text: &[u8]) -> Result<Option<Created>, DumpFault>
     requires { length text.now < 2 ^ 32 }
     ensures says { IfOk result (λ created. SaysCreate text.now created) }
     ensures memory { IfErr result (λ fault. fault ≡ Memory) }

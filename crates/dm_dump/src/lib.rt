@@ -26,9 +26,9 @@ mod terminal;
 mod tests;
 mod unit;
 
-pub use dump::{Dump, read_dump};
+pub use dump::{Created, Dump, bytes_in, create_fault, lower, read_create, read_dump};
 pub use fault::{DumpCause, DumpFault, Fault};
 pub use inserts::{InsertOrder, Inserts};
 pub use order::row_at;
-pub use outline::{Outline, Span, read_outline};
-pub use reading_rows::read_rows;
+pub use outline::{Outline, Span, least, read_outline};
+pub use reading_rows::{read_rows, refused};

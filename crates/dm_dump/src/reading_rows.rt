@@ -3,7 +3,7 @@ ghost use Rattle.std.specs.List.{list_all};
 ghost use Rattle.dm_schema.specs.Kinds.{is_column};
 ghost use Rattle.dm_dump.specs.Units.{units};
 ghost use Rattle.dm_dump.specs.Outlines.{least, second_place, second_create};
-ghost use Rattle.dm_dump.specs.Rows.{refused, gathered, unless_inserts, HasRows};
+ghost use Rattle.dm_dump.specs.Rows.{refused, gathered, unless_inserts, HasRows, are_readable};
 ghost use Rattle.dm_dump.specs.Gatherings.{gathered_in};
 ghost use Rattle.dm_dump.specs.Streams.{all_contents};
 ghost use Rattle.dm_dump.specs.Dumps.{OrMemory};
@@ -24,6 +24,7 @@ struct WholeRead {
     ending: Option<Fault>,
 }
 
+/// The same as why a dump can't be read.
 pub fn refused(fault: Fault) -> DumpFault
     ensures { result ≡ refused fault }
 {
@@ -72,7 +73,8 @@ pub fn read_rows(
     schema: &Schema,
 ) -> Result<Inserts, DumpFault>
     requires { length text.now < 2 ^ 32 }
-    ensures { OrMemory (HasRows text.now table.now schema.now) result }
+    ensures says { OrMemory (HasRows text.now table.now schema.now) result }
+    ensures readable { IfOk result (λ inserts. IsTrue (are_readable text.now schema.now inserts)) }
 {
     let read = gather(alloc, text, table, schema.columns())?;
     let WholeRead { rows, ending } = read;

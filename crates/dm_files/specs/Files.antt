@@ -1,29 +1,23 @@
 -- The files of a task, in its order.
-use Rattle.std.specs.Prelude.{ℕ, ◌^◌, Bool, nat_lt, List, [], ◌∷◌, ◌++◌, map, length, slice_get}
+use Rattle.std.specs.Prelude.{ℕ, ◌^◌, ◌-◌, Bool, nat_lt, min, List, [], map, length, slice_get}
 use Rattle.std.specs.Option.{option_map_or}
-use Rattle.std.specs.List.{flat_map, list_all}
+use Rattle.std.specs.List.{list_all}
 use Rattle.std.specs.Cmp.Lexicographic.{pointwise}
-use Rattle.dm_schema.specs.Names.{Text, same_name}
+use Rattle.dm_schema.specs.Names.{same_name}
 use Rattle.dm_task.specs.declared.task.Task.{Task}
 use Rattle.dm_task.specs.declared.task.Source.{Source}
-use Rattle.dm_task.specs.declared.task.SourceTable.{SourceTable}
+-- Of a table: the file of its CREATE TABLE, then those of its rows. Of a source: its binlogs, then the files of its tables.
+-- A task's are its sources'; a file's number is its place here, and a name that stands twice has two numbers.
+pub use Rattle.dm_task.specs.TaskFile.{table_files, source_files, files_of}
 use Rattle.dm_files.specs.declared.files.NamedFile.{NamedFile}
-
--- of a table: the file of its CREATE TABLE, then those of its rows
-abbrev pub table_files : SourceTable → List Text
-table_files table = table.create ∷ table.rows
-
--- of a source: its binlogs, then the files of its tables
-abbrev pub source_files : Source → List Text
-source_files source = source.binlogs ++ flat_map table_files source.tables
-
--- The names of a task's files. A file's number is its place here; a name that stands twice has two numbers.
-abbrev pub files_of : Task → List Text
-files_of task = flat_map source_files task.sources
 
 -- they are the files of the task, in its order
 abbrev pub are_files : Task → List NamedFile → Bool
 are_files task files = pointwise same_name (map (λ f. f.name) files) (files_of task)
+
+-- how many files a source has, as a number of 64 bits
+abbrev pub count_of : Source → ℕ
+count_of source = min (length (source_files source)) (2 ^ 64 - 1)
 
 -- the bytes of the file of a number; none where there is no such file
 abbrev pub bytes_of : List NamedFile → ℕ → List ℕ

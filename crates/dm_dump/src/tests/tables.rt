@@ -33,6 +33,9 @@ CREATE TABLE t (a INT); => fault 0 Create
 CREATE TABLE t (a INT COMMENT 'x => fault 30 Lex
 INSERT INTO t VALUES (1,'x'); CREATE TABLE t (a INT NOT NULL, b VARCHAR(5), PRIMARY KEY (a));  => fault 0 Statement
 INSERT INTO t VALUES (1,'x'); => fault 0 Statement
+INSERT INTO t VALUES (1,'x => fault 24 Lex
+INSERT INTO t VALUES (1); UPDATE t 'x => fault 0 Statement
+INSERT INTO t VALUES (1); CREATE TABLE t (a INT NOT NULL, PRIMARY KEY (a)); => fault 0 Statement
 CREATE TABLE t (a INT NOT NULL, b VARCHAR(5), PRIMARY KEY (a)); INSERT INTO t VALUES (NULL,'x') FROM; => fault 64 Statement
 CREATE TABLE t (a INT NOT NULL, b VARCHAR(5), PRIMARY KEY (a)); INSERT INTO t VALUES (NULL,'x => fault 86 Unfit
 CREATE TABLE t (a INT NOT NULL, b VARCHAR(5), PRIMARY KEY (a)); INSERT INTO t VALUES (1,-'x => fault 89 Lex
@@ -52,6 +55,8 @@ DROP TABLE t =>
 INSERT INTO t VALUES (1); CREATE TABLE t (a INT); CREATE TABLE t (a INT) => create 26..48 insert 0 fault 50 SecondCreate
 CREATE TABLE t (a INT); foo; CREATE TABLE t (a INT) => create 0..22 fault 24 Statement
 CREATE TABLE t (a INT) 'x => create 0..25 fault 23 Lex
+INSERT INTO t VALUES (1,'x =>  fault 24 Lex
+INSERT INTO t VALUES (1); INSERT INTO t VALUES ('x =>  insert 0 fault 48 Lex
 ";
 
 /// As dumpling writes a table.
