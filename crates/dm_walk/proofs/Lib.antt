@@ -7,3 +7,6 @@ pub mod Says
 pub mod QueryLemmas
 pub mod Shorts
 pub mod Logs
+pub mod Framed
+pub mod Reading
+pub mod Laws

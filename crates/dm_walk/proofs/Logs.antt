@@ -1,5 +1,6 @@
 -- Walking over a log, event by event.
-use Rattle.std.proofs.Common.{◌≡◌, ℕ, Bool, true, false, ◌&&◌, List, [], ◌∷◌, ◌++◌, map, fold, Option, Some, None, is_some, refl, sym, ap, ◌∙◌}
+use Rattle.std.proofs.Common.{◌≡◌, ℕ, zero, suc, ◌+◌, ◌<◌, ◌≤◌, Bool, true, false, ◌&&◌, List, [], ◌∷◌, ◌++◌, map, fold, length, take, drop, get_or, Option, Some, None, is_some, refl, sym, ap, ◌∙◌, arith}
+use Rattle.std.proofs.Math.ListN.{set}
 use Rattle.std.specs.List.{list_all}
 use Rattle.dm_route.specs.declared.rules.Rules.{Rules}
 use Rattle.dm_stream.specs.declared.event.LogFault.{LogFault}
@@ -51,3 +52,28 @@ all_next statements rules old new e (t ∷ ts) next same =
     let first = walked_next statements rules old new e t next same in
     let rest = all_next statements rules old new e ts next same in
     rw (first, rest) refl
+
+-- One history more has the event.
+pub one_placed : (f : Track → Track) (all : List Track) (i : ℕ) (d : Track) → i < length all → set (map f (take i all) ++ drop i all) i (f (get_or (map f (take i all) ++ drop i all) i d)) ≡ map f (take (suc i) all) ++ drop (suc i) all
+one_placed f [] i d inside = absurd (omega arith)
+one_placed f (x ∷ xs) zero d inside = refl
+one_placed f (x ∷ xs) (suc i) d inside = ap (λ (ts : List Track). f x ∷ ts) (one_placed f xs i d (omega arith))
+
+pub event_placed : (f : Track → Track) (all now : List Track) (i : ℕ) (here new : Track) → i < length all → now ≡ map f (take i all) ++ drop i all → new ≡ f (get_or now i here)
+    → set now i new ≡ map f (take (i + 1) all) ++ drop (i + 1) all
+event_placed f all now i here new inside now_is new_is =
+    let next : suc i ≡ i + 1 = omega arith in
+    let value : new ≡ f (get_or (map f (take i all) ++ drop i all) i here) = new_is ∙ ap (λ (ts : List Track). f (get_or ts i here)) now_is in
+    ap (λ (ts : List Track). set ts i new) now_is ∙ ap (set (map f (take i all) ++ drop i all) i) value ∙ one_placed f all i here inside ∙ ap (λ (n : ℕ). map f (take n all) ++ drop n all) next
+
+pub all_placed : (f : Track → Track) (all : List Track) (i : ℕ) → length all ≤ i → map f (take i all) ++ drop i all ≡ map f all
+all_placed f [] zero past = refl
+all_placed f [] (suc i) past = refl
+all_placed f (x ∷ xs) zero past = absurd (omega arith)
+all_placed f (x ∷ xs) (suc i) past = ap (λ (ts : List Track). f x ∷ ts) (all_placed f xs i (omega arith))
+
+-- what is known of all histories behind one more event
+pub all_kept : (statements : Statements) (rules : Rules) (old new : Log) (e : Logged) (tracks next all : List Track) → old.events ≡ e ∷ new.events → new.fault ≡ old.fault → next ≡ map (λ t. with_event statements rules t e) tracks
+    → map (walked statements rules old) tracks ≡ all → map (walked statements rules new) next ≡ all
+all_kept statements rules old new e tracks next all taken same next_is known =
+    ap (map (walked statements rules new)) next_is ∙ all_next statements rules old new e tracks taken same ∙ known

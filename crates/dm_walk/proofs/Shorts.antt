@@ -1,5 +1,5 @@
 -- Places in the files of a log and in its statements have 32 bits.
-use Rattle.std.proofs.Common.{◌≡◌, ℕ, ◌+◌, ◌-◌, ◌<◌, ◌≤◌, ◌^◌, Bool, true, false, cond, ◌==◌, List, [], ◌∷◌, ◌++◌, length, drop, take, Option, Some, None, Result, Ok, Err, refl, sym, ap, ◌∙◌, arith, length-drop, length-take}
+use Rattle.std.proofs.Common.{◌≡◌, ℕ, suc, map, All, ◌+◌, ◌-◌, ◌<◌, ◌≤◌, ◌^◌, Bool, true, false, cond, ◌==◌, List, [], ◌∷◌, ◌++◌, length, drop, take, Option, Some, None, Result, Ok, Err, refl, sym, ap, ◌∙◌, arith, length-drop, length-take}
 use Rattle.std.specs.Prelude.{slice_range}
 use Rattle.dm_binlog.specs.declared.event.Event.{Event}
 use Rattle.dm_binlog.specs.declared.event.Events.{Events}
@@ -13,7 +13,11 @@ use Rattle.dm_syntax.specs.declared.fault.DdlFault.{DdlFault}
 use Rattle.dm_ddl.specs.declared.heads.Head.{Head}
 use Rattle.dm_ddl.specs.declared.heads.Head.TheVariants as head
 use Rattle.dm_stream.specs.declared.cause.BadCause.TheVariants as cause
-use Rattle.dm_stream.specs.Rests.{AreShort as AreShortFiles}
+use Rattle.dm_stream.specs.declared.event.LogFile as program_file
+use Rattle.dm_stream.specs.declared.event.Logged as program_logged
+use Rattle.dm_stream.specs.Rests.{IsNext}
+use Rattle.dm_stream.specs.Views.{seen, seen_file, IsShort as IsShortFile}
+use Rattle.std.specs.Option.{option_map}
 use Rattle.dm_stream.specs.Sayings.{Heads, Said, Nothing, Ends, Rows, Statement, body_of, head_said, is_rows, last_map, map_said, partial_update_rows, query_said, rows_by, rows_said, said_of, transaction_payload}
 use Rattle.dm_stream.specs.Logs.{LogFile, Logged, Log, is_last, log_fault, log_of, logged, with_file}
 use Rattle.dm_walk.proofs.QueryLemmas.{query_short}
@@ -81,10 +85,26 @@ file_short heads file events behind short rest = by events.fault where
   by None = both_short (logged heads file [] events.list) behind.events (logged_short heads file [] events.list short) rest
   by (Some f) = logged_short heads file [] events.list short
 
-pub log_short : (heads : Heads) (start : ℕ) (files : List LogFile) → AreShortFiles files → AreShort (log_of heads start files).events
-log_short heads start [] short = tt
-log_short heads start (f ∷ fs) short = file_short heads f (events_of f.bytes start (is_last fs)) (log_of heads 4 fs) short.0 (log_short heads 4 fs short.1)
+files_short : (heads : Heads) (start : ℕ) (files : List program_file.LogFile) → All IsShortFile files → AreShort (log_of heads start (map seen_file files)).events
+files_short heads start [] short = tt
+files_short heads start (f ∷ fs) short =
+    file_short heads (seen_file f) (events_of f.bytes.now start (is_last (map seen_file fs))) (log_of heads 4 (map seen_file fs)) (first_of f fs short) (files_short heads 4 fs (others_of f fs short)) where
+  first_of : (f : program_file.LogFile) (fs : List program_file.LogFile) → All IsShortFile (f ∷ fs) → IsShortFile f
+  first_of f fs all = all 0 f (omega arith)
+  others_of : (f : program_file.LogFile) (fs : List program_file.LogFile) → All IsShortFile (f ∷ fs) → All IsShortFile fs
+  others_of f fs all = λ k d inside. all (suc k) d (omega arith)
+
+-- so has the log that a stream begins with
+pub log_short : (heads : Heads) (start : ℕ) (files : List program_file.LogFile) (log : Log) → All IsShortFile files → log ≡ log_of heads start (map seen_file files) → AreShort log.events
+log_short heads start files log short is = rw is (files_short heads start files short)
 
 -- what is left of a log whose next event was taken
 pub rest_short : (old new : List Logged) (e : Logged) → old ≡ e ∷ new → AreShort old → IsShort e × AreShort new
 rest_short old new e next short = rw next at short
+
+-- the event that a stream gave is the next of its log
+pub next_is : (old new : Log) (o : Option program_logged.Logged) (taken : program_logged.Logged) → o ≡ Some taken → IsNext old (option_map seen o) new → old.events ≡ seen taken ∷ new.events
+next_is old new o taken is next = rw is at next
+
+pub none_left : (old new : Log) (o : Option program_logged.Logged) → o ≡ None → IsNext old (option_map seen o) new → old.events ≡ []
+none_left old new o is next = let both : IsNext old None new = rw is at next in both.0

@@ -1,10 +1,10 @@
-ghost use Rattle.std.specs.Prelude.{◌≡◌, map, IfOk, IsTrue, Option};
+ghost use Rattle.std.specs.Prelude.{◌≡◌, map, All, IfOk, IsTrue, Option};
 ghost use Rattle.std.specs.Option.{option_map};
 ghost use Rattle.dm_stream.specs.declared.event.LogFault.{LogFault};
 ghost use Rattle.dm_stream.specs.Logs.{AreHeads, log_of};
-ghost use Rattle.dm_stream.specs.Rests.{is_behind, left, AreShort as AreShortFiles};
+ghost use Rattle.dm_stream.specs.Rests.{is_behind, left};
 ghost use Rattle.dm_stream.specs.Sayings.{Heads};
-ghost use Rattle.dm_stream.specs.Views.{seen, seen_file};
+ghost use Rattle.dm_stream.specs.Views.{seen, seen_file, IsShort as IsShortFile};
 ghost use Rattle.dm_walk.specs.declared.track.Track.{Track};
 ghost use Rattle.dm_walk.specs.Steps.{have_ended, AreShort, IsShort};
 ghost use Rattle.dm_walk.specs.Walks.{walked, with_end, with_event, AreStatements, Statements};
@@ -56,6 +56,19 @@ fn add_event(
     Ok(())
 }
 
+/// The same of an event that is let go of.
+fn add_taken(
+    alloc: Global,
+    rules: &Rules,
+    histories: &mut [History],
+    logged: Logged<'_>,
+) -> Result<(), AllocError>
+    requires { IsShort (seen logged) }
+    ensures { (statements : Statements) → AreStatements statements → IfOk result (λ _. histories.new ≡ map (λ t. with_event statements rules.now t (seen logged.entry)) histories.old) }
+{
+    add_event(alloc, rules, histories, &logged)
+}
+
 /// The events that are left, for each history, until all have ended.
 fn add_events(
     alloc: Global,
@@ -70,7 +83,7 @@ fn add_events(
         → IfOk result (λ _. map (with_end fault) histories.new ≡ map (walked statements rules.now (left heads stream.old)) histories.old) }
 {
     while let Some(logged) = stream.next_event()? {
-        add_event(alloc, rules, histories, &logged)?;
+        add_taken(alloc, rules, histories, logged)?;
         if have_ended(histories) {
             return Ok(());
         }
@@ -86,7 +99,7 @@ pub fn walk(
     files: &[LogFile<'_>],
     start: u32,
 ) -> Result<Vec<Track>, AllocError>
-    requires short { AreShortFiles (map seen_file files.now) }
+    requires { All IsShortFile files.now }
     ensures walked { IfOk result (λ new. (heads : Heads) (statements : Statements) → AreHeads heads → AreStatements statements
         → new.items ≡ map (walked statements rules.now (log_of heads start (map seen_file files.now))) tracks.items) }
     // What a statement says by its grammar is one thing for each text, so a clause on all such statements says something.
