@@ -59,7 +59,7 @@ pub images_added : (e : Logged) (map_event : Event) (table : TableMap) (head : R
 images_added e map_event table head t kind layout bytes items bad kind_is layout_is bytes_are items_are bad_is =
     let images : images_by e table head kind layout bytes ≡ images_of e table head t = ap (λ (k : PlaceKind). images_by e table head k layout bytes) kind_is ∙ same_images e table head t layout bytes layout_is bytes_are in
     let places : items ≡ t.items ++ map (placed_row (event_place e map_event (place_kind e.event.kind))) (images_of e table head t).places =
-        items_are
-        ∙ ap (λ (k : PlaceKind). t.items ++ map (placed_row (event_place e map_event k)) (images_by e table head kind layout bytes).places) kind_is
-        ∙ ap (λ (found : Images). t.items ++ map (placed_row (event_place e map_event (place_kind e.event.kind))) found.places) images in
+    items_are
+    ∙ ap (λ (k : PlaceKind). t.items ++ map (placed_row (event_place e map_event k)) (images_by e table head kind layout bytes).places) kind_is
+    ∙ ap (λ (found : Images). t.items ++ map (placed_row (event_place e map_event (place_kind e.event.kind))) found.places) images in
     added e map_event (images_of e table head t) t items bad places (bad_is ∙ ap (λ (found : Images). option_map row_cause found.fault) images)

@@ -105,14 +105,15 @@ said_keeps Holds keeps statements rules e rows Nothing t is holds = holds
 said_keeps Holds keeps statements rules e rows (Ends cause) t is holds = keeps.fault _ t holds
 said_keeps Holds keeps statements rules e rows (Rows map_event table head) t is holds =
     by (not (same_name table.db t.own.db && same_name table.table t.own.table)) (ignores rules t.own.db t.own.table (rows_kind e.event.kind)) where
-  by : (other ignored : Bool) → Holds (cond {A = Track} other t (cond {A = Track} ignored t (with_rows e map_event table head t)))
-  by true ignored = holds
-  by false true = holds
-  by false false = rows map_event table head t is holds
+      by : (other ignored : Bool) → Holds (cond {A = Track} other t (cond {A = Track} ignored t (with_rows e map_event table head t)))
+      by true ignored = holds
+      by false true = holds
+      by false false = rows map_event table head t is holds
 said_keeps Holds keeps statements rules e rows (Stated head db text) t is holds = by (statement_kind t.own db head) refl where
   ignored : (kind : EventKind) (b : Bool) → Holds (cond {A = Track} b t (with_ddl statements e head text t))
   ignored kind true = holds
   ignored kind false = ddl_keeps Holds keeps statements e head text t holds
+
   by : (o : Option EventKind) → statement_kind t.own db head ≡ o → Holds (with_said statements rules e (Stated head db text) t)
   by None found = rw found holds
   by (Some kind) found = rw found (ignored kind (ignores rules t.own.db t.own.table kind))
@@ -205,14 +206,14 @@ read_rows : (reads : Place → Layout → Bool) (files : ℕ → List ℕ) → A
 read_rows reads files agrees e sound = λ map_event table head t is read.
     let said : IsSaid e.file.bytes e.event (Rows map_event table head) = rw is at sound.1 in
     by map_event table head t read said (not head.full) (not (head.count == length table.columns)) where
-  by : (map_event : Event) (table : TableMap) (head : RowsHead) (t : Track) → IsRead reads t → IsSaid e.file.bytes e.event (Rows map_event table head) → (partial other : Bool)
-      → IsRead reads (cond {A = Track} partial (ended cause.Partial e t) (cond {A = Track} other (ended cause.Count e t) (with_images e map_event (images_of e table head t) t)))
-  by map_event table head t read said true other = read
-  by map_event table head t read said false true = read
-  by map_event table head t read said false false =
-      images_read reads e map_event (images_of e table head t) t read
-      (places_read reads files agrees e map_event table head (layout_of t) sound.0 said.0 said.1 (images_of e table head t).places
-      (images_there (is_update e.event.kind) table.columns (layout_of t) (e.event.body + head.rows) 0 (rows_bytes e.file.bytes e.event head)))
+      by : (map_event : Event) (table : TableMap) (head : RowsHead) (t : Track) → IsRead reads t → IsSaid e.file.bytes e.event (Rows map_event table head) → (partial other : Bool)
+          → IsRead reads (cond {A = Track} partial (ended cause.Partial e t) (cond {A = Track} other (ended cause.Count e t) (with_images e map_event (images_of e table head t) t)))
+      by map_event table head t read said true other = read
+      by map_event table head t read said false true = read
+      by map_event table head t read said false false =
+          images_read reads e map_event (images_of e table head t) t read
+          (places_read reads files agrees e map_event table head (layout_of t) sound.0 said.0 said.1 (images_of e table head t).places
+          (images_there (is_update e.event.kind) table.columns (layout_of t) (e.event.body + head.rows) 0 (rows_bytes e.file.bytes e.event head)))
 
 -- The law: each row that a walk over a sound log adds can be read again, with the schema at it.
 pub rows_read : (reads : Place → Layout → Bool) (files : ℕ → List ℕ) → Agrees reads files → (statements : Statements) (rules : Rules) (log : Log) (t : Track) → Every (IsSound files) log.events → IsRead reads t → IsRead reads (walked statements rules log t)
@@ -327,6 +328,7 @@ following_rows e = λ map_event table head t is all. by map_event table head t a
   added : (map_event : Event) (images : Images) (t : Track) → IsFollowing t → (fault : Option RowFault) → IsFollowing (with_images e map_event (record { places = images.places; fault = fault }) t)
   added map_event images t all None = all
   added map_event images t all (Some f) = all
+
   by : (map_event : Event) (table : TableMap) (head : RowsHead) (t : Track) → IsFollowing t → (partial other : Bool)
       → IsFollowing (cond {A = Track} partial (ended cause.Partial e t) (cond {A = Track} other (ended cause.Count e t) (with_images e map_event (images_of e table head t) t)))
   by map_event table head t all true other = all
@@ -341,6 +343,6 @@ schemas_follow statements rules log t all =
       said = λ e t sound all. said_keeps IsFollowing following_steps statements rules e (following_rows e) e.said t refl all;
       fault = λ o t all. all;
     }) log t (trivially log.events) all where
-  trivially : (events : List Logged) → Every (λ e. Unit {0}) events
-  trivially [] = tt
-  trivially (e ∷ es) = (tt, trivially es)
+      trivially : (events : List Logged) → Every (λ e. Unit {0}) events
+      trivially [] = tt
+      trivially (e ∷ es) = (tt, trivially es)

@@ -77,3 +77,9 @@ pub all_kept : (statements : Statements) (rules : Rules) (old new : Log) (e : Lo
     → map (walked statements rules old) tracks ≡ all → map (walked statements rules new) next ≡ all
 all_kept statements rules old new e tracks next all taken same next_is known =
     ap (map (walked statements rules new)) next_is ∙ all_next statements rules old new e tracks taken same ∙ known
+
+pub take_whole : (front rest : List Track) (n : ℕ) → n ≡ length front → take n (front ++ rest) ≡ front
+take_whole [] rest zero long = refl
+take_whole [] rest (suc n) long = absurd (omega arith)
+take_whole (t ∷ ts) rest zero long = absurd (omega arith)
+take_whole (t ∷ ts) rest (suc n) long = ap (λ (front : List Track). t ∷ front) (take_whole ts rest n (omega arith))

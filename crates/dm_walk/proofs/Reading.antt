@@ -77,6 +77,7 @@ change_read place.Update maps layout bytes logged sized = by (row_of maps layout
   second : (read : List Value × ℕ) → row_of maps layout bytes ≡ Ok read → (o : Row) → row_of maps layout (drop read.1 bytes) ≡ o → is_some (change_in place.Update maps layout bytes) ≡ true
   second read is (Err f) behind = absurd (let none : false ≡ true = rw (is, behind) at sized in cc)
   second read is (Ok other) behind = rw (is, behind) refl
+
   by : (o : Row) → row_of maps layout bytes ≡ o → is_some (change_in place.Update maps layout bytes) ≡ true
   by (Err f) is = absurd (let none : false ≡ true = rw is at sized in cc)
   by (Ok read) is = second read is (row_of maps layout (drop read.1 bytes)) refl
@@ -110,5 +111,5 @@ place_read file number e map_event table head layout p end map there =
     let sized : is_ok (change_size (has_two kind) table.columns layout (drop n (rows_bytes file e head))) ≡ true = rw (two_for_updates e.kind) there.2 in
     let read = change_read kind table.columns layout (drop n (rows_bytes file e head)) (logged_kind e.kind) sized in
     let bytes : slice_range file p (end_of file e.at) ≡ drop n (rows_bytes file e head) =
-        ap (λ (from : ℕ). slice_range file from (end_of file e.at)) there.1 ∙ ap (slice_range file (e.body + head.rows + n)) (sym end) ∙ rest_of file (e.body + head.rows) e.end n in
+    ap (λ (from : ℕ). slice_range file from (end_of file e.at)) there.1 ∙ ap (slice_range file (e.body + head.rows + n)) (sym end) ∙ rest_of file (e.body + head.rows) e.end n in
     rw (map, bytes) read

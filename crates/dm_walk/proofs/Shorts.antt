@@ -89,10 +89,11 @@ files_short : (heads : Heads) (start : ℕ) (files : List program_file.LogFile) 
 files_short heads start [] short = tt
 files_short heads start (f ∷ fs) short =
     file_short heads (seen_file f) (events_of f.bytes.now start (is_last (map seen_file fs))) (log_of heads 4 (map seen_file fs)) (first_of f fs short) (files_short heads 4 fs (others_of f fs short)) where
-  first_of : (f : program_file.LogFile) (fs : List program_file.LogFile) → All IsShortFile (f ∷ fs) → IsShortFile f
-  first_of f fs all = all 0 f (omega arith)
-  others_of : (f : program_file.LogFile) (fs : List program_file.LogFile) → All IsShortFile (f ∷ fs) → All IsShortFile fs
-  others_of f fs all = λ k d inside. all (suc k) d (omega arith)
+      first_of : (f : program_file.LogFile) (fs : List program_file.LogFile) → All IsShortFile (f ∷ fs) → IsShortFile f
+      first_of f fs all = all 0 f (omega arith)
+
+      others_of : (f : program_file.LogFile) (fs : List program_file.LogFile) → All IsShortFile (f ∷ fs) → All IsShortFile fs
+      others_of f fs all = λ k d inside. all (suc k) d (omega arith)
 
 -- so has the log that a stream begins with
 pub log_short : (heads : Heads) (start : ℕ) (files : List program_file.LogFile) (log : Log) → All IsShortFile files → log ≡ log_of heads start (map seen_file files) → AreShort log.events

@@ -28,6 +28,7 @@ change_in kind maps layout bytes = by kind (row_of maps layout bytes) where
   new_image : List Value → Result (List Value × ℕ) RowFault → Option RowChange
   new_image old (Ok read) = Some (change.Update old read.0)
   new_image old (Err fault) = None
+
   by : PlaceKind → Result (List Value × ℕ) RowFault → Option RowChange
   by place.Write (Ok read) = Some (change.Insert read.0)
   by place.Delete (Ok read) = Some (change.Delete read.0)

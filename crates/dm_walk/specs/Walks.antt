@@ -30,6 +30,8 @@ use Rattle.dm_route.specs.declared.event_kind.EventKind.{EventKind}
 use Rattle.dm_route.specs.declared.event_kind.EventKind.TheVariants as kind
 use Rattle.dm_route.specs.declared.rules.Rules.{Rules}
 use Rattle.dm_route.specs.Rules.{ignores}
+use Rattle.dm_snapshot.specs.declared.snapshot.RowsFile.{RowsFile}
+use Rattle.dm_snapshot.specs.declared.snapshot.Snapshot.{Snapshot}
 use Rattle.dm_stream.specs.declared.cause.BadCause.{BadCause}
 use Rattle.dm_stream.specs.declared.cause.BadCause.TheVariants as cause
 use Rattle.dm_stream.specs.declared.event.LogFault.{LogFault}
@@ -73,6 +75,7 @@ change_size update maps layout bytes = by (row_of maps layout bytes) where
   second : ℕ → Result (List Value × ℕ) RowFault → Result ℕ RowFault
   second size (Err f) = Err f
   second size (Ok read) = Ok (size + read.1)
+
   by : Result (List Value × ℕ) RowFault → Result ℕ RowFault
   by (Err f) = Err f
   by (Ok read) = if update then second read.1 (row_of maps layout (drop read.1 bytes)) else Ok read.1
@@ -137,6 +140,7 @@ statement_kind own db head = by head where
   if_named : EventKind → Bool → Option EventKind
   if_named kind true = Some kind
   if_named kind false = None
+
   by : Head → Option EventKind
   by (heads.Create table only_new) = if_named kind.CreateTable (is_named own db table)
   by (heads.Alter table) = if_named kind.AlterTable (is_named own db table)
@@ -203,6 +207,18 @@ with_end fault t = if is_some t.fault then t else with_fault fault t
 -- a history behind all events of its source
 abbrev pub walked : Statements → Rules → Log → Track → Track
 walked statements rules log t = with_end log.fault (fold (with_event statements rules) t log.events)
+
+-- The rows of its dump.
+
+abbrev pub dumped_item : ℕ → ℕ → Item
+dumped_item number at = item.Row (record { file = number; at = at; event = 0; map = 0; kind = place.Dumped })
+
+abbrev pub dumped_items : RowsFile → List Item
+dumped_items file = map (dumped_item file.number) file.inserts.places
+
+-- the history of a table with the rows of its dump alone, file by file
+abbrev pub begun : TableName → Snapshot → Track
+begun own snapshot = record { own = own; first = snapshot.schema; later = []; items = flat_map dumped_items snapshot.files; fault = None }
 
 -- What statements say, by their grammar.
 abbrev pub AreStatements : Statements → Type 0

@@ -193,12 +193,7 @@ impl History {
     }
 
     /// A statement that alters the table.
-    fn alter(
-        &mut self,
-        alloc: Global,
-        logged: &Logged<'_>,
-        text: &[u8],
-    ) -> Result<(), AllocError>
+    fn alter(&mut self, alloc: Global, logged: &Logged<'_>, text: &[u8]) -> Result<(), AllocError>
         requires { length text.now < 2 ^ 32 }
         ensures { (statements : Statements) → AreStatements statements → IfOk result (λ _. self.new ≡ altered (seen logged.now) (statements text.now) self.old) }
     {
@@ -227,7 +222,10 @@ impl History {
             Head::Alter(_) | Head::CreateIndex(_) | Head::DropIndex(_) => {
                 self.alter(alloc, logged, text)
             }
-            Head::Create { only_new: false, .. }
+            Head::Create {
+                only_new: false,
+                ..
+            }
             | Head::DropTable(_)
             | Head::Truncate(_)
             | Head::Rename(_) => {
@@ -247,7 +245,12 @@ impl History {
     fn ignores(&self, rules: &Rules, kind: EventKind) -> bool
         ensures { result ≡ ignores rules.now self.now.own.db self.now.own.table kind }
     {
-        ignores(rules, self.own.db.as_slice(), self.own.table.as_slice(), kind)
+        ignores(
+            rules,
+            self.own.db.as_slice(),
+            self.own.table.as_slice(),
+            kind,
+        )
     }
 
     /// What an event says of the table.

@@ -1,6 +1,7 @@
 //! The histories of a source's shards, as one walk over the source's events.
 #![tactic(auto)]
 
+mod beginning;
 mod cause;
 mod history;
 mod item;
@@ -9,6 +10,7 @@ mod statement;
 mod track;
 mod walking;
 
+pub use beginning::begun;
 pub use item::{Item, Place, PlaceKind};
 pub use track::Track;
 pub use walking::walk;

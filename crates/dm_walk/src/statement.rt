@@ -20,7 +20,8 @@ fn is_named(own: &TableName, db: &[u8], named: &Named) -> bool
         Some(written) => written.as_slice(),
         None => db,
     };
-    same_text(named_db, own.db.as_slice()) && same_text(named.table.as_slice(), own.table.as_slice())
+    same_text(named_db, own.db.as_slice())
+        && same_text(named.table.as_slice(), own.table.as_slice())
 }
 
 fn are_named(own: &TableName, db: &[u8], tables: &Tables) -> bool

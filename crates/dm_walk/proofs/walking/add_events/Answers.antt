@@ -14,12 +14,12 @@ add_taken-requires c =
 pub loop-logged-preserved : goal.loop-logged-preserved
 loop-logged-preserved c = record {
   short = λ heads are.
-  (rest_short _ _ _ (next_is (left heads c.loop-logged.stream) (left heads c.next_event.new.self) c.in_ok-logged.field-0 c.in-Some.logged c.in-Some.is (c.in_ok-logged.ensures.gives heads are))
-  (c.loop-logged.invariant.short heads are)).1;
+      (rest_short _ _ _ (next_is (left heads c.loop-logged.stream) (left heads c.next_event.new.self) c.in_ok-logged.field-0 c.in-Some.logged c.in-Some.is (c.in_ok-logged.ensures.gives heads are))
+      (c.loop-logged.invariant.short heads are)).1;
   same = λ heads statements are says.
-  all_kept statements c.args.rules.now (left heads c.loop-logged.stream) (left heads c.next_event.new.self) (seen c.in-Some.logged) c.loop-logged.histories c.add_taken.new.histories _
-  (next_is (left heads c.loop-logged.stream) (left heads c.next_event.new.self) c.in_ok-logged.field-0 c.in-Some.logged c.in-Some.is (c.in_ok-logged.ensures.gives heads are))
-  (c.in_ok-logged.ensures.fault heads) (c.in_ok-add_taken.ensures statements says) (c.loop-logged.invariant.same heads statements are says);
+      all_kept statements c.args.rules.now (left heads c.loop-logged.stream) (left heads c.next_event.new.self) (seen c.in-Some.logged) c.loop-logged.histories c.add_taken.new.histories _
+      (next_is (left heads c.loop-logged.stream) (left heads c.next_event.new.self) c.in_ok-logged.field-0 c.in-Some.logged c.in-Some.is (c.in_ok-logged.ensures.gives heads are))
+      (c.in_ok-logged.ensures.fault heads) (c.in_ok-add_taken.ensures statements says) (c.loop-logged.invariant.same heads statements are says);
 }
 
 pub returns-then-have_ended : goal.returns-then-have_ended

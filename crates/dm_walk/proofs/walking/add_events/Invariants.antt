@@ -10,7 +10,7 @@ abbrev pub invariant-loop-logged : goal.invariant-loop-logged
 invariant-loop-logged l = record {
   short : (heads : Heads) → AreHeads heads → AreShort (left heads l.stream).events;
   same : (heads : Heads) (statements : Statements) → AreHeads heads → AreStatements statements
-    → map (walked statements l.rules (left heads l.stream)) l.histories ≡ map (walked statements l.rules (left heads l.initial.stream)) l.initial.histories;
+      → map (walked statements l.rules (left heads l.stream)) l.histories ≡ map (walked statements l.rules (left heads l.initial.stream)) l.initial.histories;
 }
 
 abbrev pub decreases-loop-logged : goal.decreases-loop-logged
