@@ -1,0 +1,12 @@
+pub mod Sizes
+pub mod Images
+pub mod RowKinds
+pub mod Layouts
+pub mod EventRows
+pub mod Says
+pub mod QueryLemmas
+pub mod Shorts
+pub mod Logs
+pub mod Framed
+pub mod Reading
+pub mod Laws

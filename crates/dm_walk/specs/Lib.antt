@@ -1,0 +1,4 @@
+pub mod Causes
+pub mod Walks
+pub mod Steps
+pub mod Changes
