@@ -1,0 +1,57 @@
+-- The change of a row that an item stands for.
+use Rattle.std.specs.Prelude.{ℕ, zero, suc, Bool, true, ◌==◌, List, [], length, Option, Some, None, is_some}
+use Rattle.std.specs.Option.{option_map, option_map_or}
+use Rattle.std.specs.List.{find, list_all, range_with_len}
+use Rattle.dm_schema.specs.Layout.{Layout}
+use Rattle.dm_schema.specs.declared.row_change.RowChange.{RowChange}
+use Rattle.dm_schema.specs.declared.row_change.RowChange.TheVariants as change
+use Rattle.dm_dump.specs.declared.inserts.InsertOrder.{InsertOrder}
+use Rattle.dm_dump.specs.Orders as dump
+use Rattle.dm_files.specs.declared.files.NamedFile.{NamedFile}
+use Rattle.dm_files.specs.Files.{bytes_of}
+use Rattle.dm_walk.specs.declared.item.Place.{Place}
+use Rattle.dm_walk.specs.declared.item.PlaceKind.{PlaceKind}
+use Rattle.dm_walk.specs.declared.item.PlaceKind.TheVariants as place
+use Rattle.dm_walk.specs.declared.item.Item.{Item}
+use Rattle.dm_walk.specs.declared.item.Item.TheVariants as item
+use Rattle.dm_walk.specs.Changes.{logged_change}
+use Rattle.dm_track.specs.declared.history.FileOrders.{FileOrders}
+use Rattle.dm_track.specs.Histories.{History, schema_at, item_of}
+
+-- Rows of dumps.
+
+abbrev pub orders_of : List FileOrders → ℕ → List InsertOrder
+orders_of all number = option_map_or (λ f. f.orders) (find (λ f. f.number == number) all) []
+
+abbrev pub dumped : List ℕ → List InsertOrder → ℕ → Layout → Option RowChange
+dumped file orders at layout = option_map change.Insert (dump.row_in_force file orders layout at)
+
+-- Items.
+
+-- the change that stands at a place, by the schema there
+abbrev pub change_at : List NamedFile → List FileOrders → Place → Layout → Option RowChange
+change_at files orders at layout = by at.kind where
+  by : PlaceKind → Option RowChange
+  by place.Dumped = dumped (bytes_of files at.file) (orders_of orders at.file) at.at layout
+  by kind = logged_change (bytes_of files at.file) at layout
+
+-- the change of the item of a number, by the schema before it
+abbrev pub change_of : List NamedFile → History → ℕ → Option RowChange
+change_of files h zero = None
+change_of files h (suc position) = by (item_of h (suc position)) where
+  by : Option Item → Option RowChange
+  by None = None
+  by (Some (item.Ddl at)) = None
+  by (Some (item.Row at)) = change_at files h.orders at (schema_at h position)
+
+-- an item is no row, or a row that can be read
+abbrev pub reads : List NamedFile → History → ℕ → Bool
+reads files h number = by (item_of h number) where
+  by : Option Item → Bool
+  by None = true
+  by (Some (item.Ddl at)) = true
+  by (Some (item.Row at)) = is_some (change_of files h number)
+
+-- each row item of each history can be read
+abbrev pub all_read : List NamedFile → List History → Bool
+all_read files histories = list_all (λ h. list_all (reads files h) (range_with_len 1 (length h.items))) histories
