@@ -1,5 +1,5 @@
 -- Going over the changes of an event's rows.
-use Rattle.std.proofs.Common.{◌≡◌, ℕ, zero, suc, ◌+◌, ◌-◌, ◌<◌, ◌≤◌, Bool, true, false, List, [], ◌∷◌, ◌++◌, map, length, drop, take, Option, Some, None, Result, Ok, Err, refl, sym, ap, ◌∙◌, arith, append_assoc, append-nil, length-drop}
+use Rattle.std.proofs.Common.{◌≡◌, ℕ, zero, suc, ◌+◌, ◌-◌, ◌<◌, ◌≤◌, Bool, false, List, [], ◌∷◌, ◌++◌, map, length, drop, take, Option, Some, None, Result, Ok, Err, refl, sym, ap, ◌∙◌, arith, append_assoc, append-nil, length-drop}
 use Rattle.std.specs.Bool.{⊤, MatchBool}
 use Rattle.std.specs.Option.{option_map}
 use Rattle.std.proofs.lemmas.List.{drop-drop, take_rest}
@@ -13,7 +13,7 @@ use Rattle.dm_walk.specs.declared.item.Place.{Place}
 use Rattle.dm_walk.specs.declared.item.Item.{Item}
 use Rattle.dm_walk.specs.Causes.{row_cause}
 use Rattle.dm_walk.specs.Steps.{has_two, placed_row}
-use Rattle.dm_walk.specs.Walks.{Images, change_size, images_from, told}
+use Rattle.dm_walk.specs.Walks.{Images, change_size, images_from}
 
 pub images_skip : (update : Bool) (maps : List ColumnMap) (layout : Layout) (at inside : ℕ) (bytes : List ℕ) → inside ≤ length bytes
     → images_from update maps layout at inside bytes ≡ images_from update maps layout (at + inside) 0 (drop inside bytes)

@@ -1,7 +1,5 @@
 -- What a walk adds to a history: rows that can be read again, and schemas that follow by changes.
-use Rattle.std.proofs.Common.{◌≡◌, ℕ, ◌+◌, Bool, true, false, cond, not, ◌&&◌, ◌||◌, ◌==◌, List, [], ◌∷◌, ◌++◌, map, fold, length, Option, Some, None, is_some, Result, Ok, Err, refl, sym, ap, ◌∙◌, subst, append_assoc, append-nil}
-use Rattle.std.specs.Prelude.{reverse}
-use Rattle.std.specs.List.{find}
+use Rattle.std.proofs.Common.{◌≡◌, ℕ, ◌+◌, Bool, true, false, cond, not, ◌&&◌, ◌==◌, List, [], ◌∷◌, ◌++◌, map, fold, length, Option, Some, None, is_some, Result, Ok, Err, refl}
 use Rattle.dm_schema.specs.Layout.{Layout}
 use Rattle.dm_schema.specs.Effect.{ddl_effect}
 use Rattle.dm_schema.specs.Names.{Text, same_name}
@@ -25,20 +23,19 @@ use Rattle.dm_ddl.specs.declared.statements.Statement.TheVariants as statement
 use Rattle.dm_route.specs.declared.event_kind.EventKind.{EventKind}
 use Rattle.dm_route.specs.declared.rules.Rules.{Rules}
 use Rattle.dm_route.specs.Rules.{ignores}
-use Rattle.dm_stream.specs.declared.cause.BadCause.{BadCause}
 use Rattle.dm_stream.specs.declared.cause.BadCause.TheVariants as cause
 use Rattle.dm_stream.specs.declared.event.LogFault.{LogFault}
 use Rattle.dm_stream.specs.Sayings.{Heads, Said, Nothing, Ends, Rows, Statement as Stated, body_of, head_said, is_rows, last_map, map_said, maps, partial_update_rows, query_said, rows_by, rows_said, said_of, transaction_payload}
-use Rattle.dm_stream.specs.Logs.{LogFile, Logged, Log, is_last, log_fault, log_of, logged, with_file}
+use Rattle.dm_stream.specs.Logs.{LogFile, Logged, Log, is_last, log_of, logged, with_file}
 use Rattle.dm_walk.specs.declared.item.Place.{Place}
 use Rattle.dm_walk.specs.declared.item.Item.{Item}
 use Rattle.dm_walk.specs.declared.item.Item.TheVariants as item
 use Rattle.dm_walk.specs.declared.track.Track.{Track}
 use Rattle.dm_walk.specs.Changes.{end_of, logged_change, map_at}
 use Rattle.dm_walk.specs.Steps.{images_of}
-use Rattle.dm_walk.specs.Walks.{Images, Statements, altered, ended, images_from, layout_of, row_item, rows_bytes, rows_kind, statement_kind, walked, with_ddl, with_effect, with_end, with_event, with_fault, with_images, with_rows, with_said}
+use Rattle.dm_walk.specs.Walks.{Images, Statements, altered, ended, layout_of, row_item, rows_bytes, rows_kind, statement_kind, walked, with_ddl, with_effect, with_end, with_event, with_fault, with_images, with_rows, with_said}
 use Rattle.dm_walk.proofs.Framed.{IsFramed, AreFramed, both_framed, events_framed, last_framed}
-use Rattle.dm_walk.proofs.Reading.{IsThere, AreThere, images_there, place_read}
+use Rattle.dm_walk.proofs.Reading.{AreThere, images_there, place_read}
 
 -- Walks.
 

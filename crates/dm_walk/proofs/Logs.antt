@@ -1,13 +1,12 @@
 -- Walking over a log, event by event.
-use Rattle.std.proofs.Common.{◌≡◌, ℕ, zero, suc, ◌+◌, ◌<◌, ◌≤◌, Bool, true, false, ◌&&◌, List, [], ◌∷◌, ◌++◌, map, fold, length, take, drop, get_or, Option, Some, None, is_some, refl, sym, ap, ◌∙◌, arith}
+use Rattle.std.proofs.Common.{◌≡◌, ℕ, zero, suc, ◌+◌, ◌<◌, ◌≤◌, Bool, true, false, ◌&&◌, List, [], ◌∷◌, ◌++◌, map, fold, length, take, drop, get_or, Option, is_some, refl, sym, ap, ◌∙◌, arith}
 use Rattle.std.proofs.Math.ListN.{set}
-use Rattle.std.specs.List.{list_all}
 use Rattle.dm_route.specs.declared.rules.Rules.{Rules}
 use Rattle.dm_stream.specs.declared.event.LogFault.{LogFault}
 use Rattle.dm_stream.specs.Logs.{Logged, Log}
 use Rattle.dm_walk.specs.declared.track.Track.{Track}
 use Rattle.dm_walk.specs.Steps.{have_ended}
-use Rattle.dm_walk.specs.Walks.{walked, with_end, with_event, with_said, Statements}
+use Rattle.dm_walk.specs.Walks.{walked, with_end, with_event, Statements}
 
 -- a history that has ended stays as it is
 pub ended_stays : (statements : Statements) (rules : Rules) (t : Track) (events : List Logged) → is_some t.fault ≡ true → fold (with_event statements rules) t events ≡ t

@@ -1,5 +1,5 @@
 -- A statement is no longer than the body that it stands in.
-use Rattle.std.proofs.Common.{◌≡◌, ◌==◌, ℕ, Bool, true, false, List, Option, Some, None, length, take, ◌≤◌, ◌+◌, nat_le, if◌then◌else◌, refl, sym, ap, ◌∙◌, subst, arith, length-drop, leb}
+use Rattle.std.proofs.Common.{◌≡◌, ◌==◌, ℕ, Bool, true, false, List, Option, Some, None, length, take, ◌≤◌, ◌+◌, if◌then◌else◌, refl, sym, ap, ◌∙◌, subst, arith, length-drop, leb}
 use Rattle.std.specs.Option.{option_map}
 use Rattle.dm_base.specs.Reading.{Reading, Reader, ◌>>=◌, and_then, just, failing, piece, le, le_value, left_of}
 use Rattle.dm_binlog.specs.Bodies.{QueryText, closed, rest, query, query_of}

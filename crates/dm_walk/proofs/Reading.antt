@@ -1,10 +1,9 @@
 -- What stands at the places of an event's changes.
-use Rattle.std.proofs.Common.{◌≡◌, ℕ, zero, suc, ◌+◌, ◌-◌, Bool, true, false, cond, ◌==◌, ◌||◌, List, [], ◌∷◌, ◌++◌, drop, take, length, Option, Some, None, is_some, Result, Ok, Err, is_ok, refl, sym, ap, ◌∙◌, subst, arith}
-use Rattle.std.specs.Prelude.{slice_range, option_and_then}
+use Rattle.std.proofs.Common.{◌≡◌, ℕ, zero, suc, ◌+◌, ◌-◌, Bool, true, false, cond, ◌==◌, ◌||◌, List, [], ◌∷◌, drop, take, Some, is_some, Result, Ok, Err, is_ok, refl, sym, ap, ◌∙◌, arith}
+use Rattle.std.specs.Prelude.{slice_range}
 use Rattle.std.proofs.lemmas.List.{drop-drop}
 use Rattle.dm_value.specs.declared.value.Value.{Value}
 use Rattle.dm_schema.specs.Layout.{Layout}
-use Rattle.dm_schema.specs.declared.row_change.RowChange.{RowChange}
 use Rattle.dm_binlog.specs.declared.event.Event.{Event}
 use Rattle.dm_binlog.specs.declared.event.TheConstants.{WRITE_ROWS_V1, WRITE_ROWS}
 use Rattle.dm_binlog.specs.declared.bodies.TableMap.{TableMap}
@@ -18,7 +17,7 @@ use Rattle.dm_walk.specs.declared.item.PlaceKind.{PlaceKind}
 use Rattle.dm_walk.specs.declared.item.PlaceKind.TheVariants as place
 use Rattle.dm_walk.specs.Changes.{change_in, end_of, logged_change, map_at}
 use Rattle.dm_walk.specs.Steps.{has_two}
-use Rattle.dm_walk.specs.Walks.{Images, change_size, images_from, place_kind, rows_bytes, told}
+use Rattle.dm_walk.specs.Walks.{change_size, images_from, place_kind, rows_bytes, told}
 use Rattle.dm_walk.proofs.RowKinds.{two_for_updates}
 
 -- a change stands so many bytes behind a place

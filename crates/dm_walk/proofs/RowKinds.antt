@@ -1,5 +1,5 @@
 -- What a rows event does, by its type.
-use Rattle.std.proofs.Common.{◌≡◌, ℕ, Bool, true, false, ◌==◌, ◌||◌, eqb, refl, sym, ap, ◌∙◌, cond}
+use Rattle.std.proofs.Common.{◌≡◌, ℕ, Bool, true, false, ◌||◌, eqb, refl, sym, ap, ◌∙◌, cond}
 use Rattle.std.proofs.lemmas.Bool.{eqb-true}
 use Rattle.dm_binlog.specs.declared.event.TheConstants.{WRITE_ROWS_V1, WRITE_ROWS}
 use Rattle.dm_binlog.specs.Bodies.{is_update}

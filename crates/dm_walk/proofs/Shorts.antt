@@ -1,6 +1,5 @@
 -- Places in the files of a log and in its statements have 32 bits.
-use Rattle.std.proofs.Common.{◌≡◌, ℕ, suc, map, All, ◌+◌, ◌-◌, ◌<◌, ◌≤◌, ◌^◌, Bool, true, false, cond, ◌==◌, List, [], ◌∷◌, ◌++◌, length, drop, take, Option, Some, None, Result, Ok, Err, refl, sym, ap, ◌∙◌, arith, length-drop, length-take}
-use Rattle.std.specs.Prelude.{slice_range}
+use Rattle.std.proofs.Common.{◌≡◌, ℕ, suc, map, All, ◌<◌, ◌^◌, Bool, true, false, cond, ◌==◌, List, [], ◌∷◌, ◌++◌, length, Option, Some, None, Result, Ok, Err, refl, sym, arith, length-drop, length-take}
 use Rattle.dm_binlog.specs.declared.event.Event.{Event}
 use Rattle.dm_binlog.specs.declared.event.Events.{Events}
 use Rattle.dm_binlog.specs.declared.event.Fault.{Fault}
@@ -18,8 +17,8 @@ use Rattle.dm_stream.specs.declared.event.Logged as program_logged
 use Rattle.dm_stream.specs.Rests.{IsNext}
 use Rattle.dm_stream.specs.Views.{seen, seen_file, IsShort as IsShortFile}
 use Rattle.std.specs.Option.{option_map}
-use Rattle.dm_stream.specs.Sayings.{Heads, Said, Nothing, Ends, Rows, Statement, body_of, head_said, is_rows, last_map, map_said, partial_update_rows, query_said, rows_by, rows_said, said_of, transaction_payload}
-use Rattle.dm_stream.specs.Logs.{LogFile, Logged, Log, is_last, log_fault, log_of, logged, with_file}
+use Rattle.dm_stream.specs.Sayings.{Heads, Said, Nothing, Ends, body_of, head_said, is_rows, last_map, map_said, partial_update_rows, query_said, rows_by, rows_said, said_of, transaction_payload}
+use Rattle.dm_stream.specs.Logs.{LogFile, Logged, Log, is_last, log_of, logged, with_file}
 use Rattle.dm_walk.proofs.QueryLemmas.{query_short}
 use Rattle.dm_walk.specs.Steps.{AreShort, HasShortText, IsShort}
 

@@ -1,5 +1,5 @@
 -- How many bytes the change of a row takes.
-use Rattle.std.proofs.Common.{◌≡◌, ℕ, ◌+◌, ◌-◌, ◌≤◌, Bool, true, false, List, length, drop, take, Result, Ok, Err, refl, sym, ap, ◌∙◌, arith, length-drop}
+use Rattle.std.proofs.Common.{◌≡◌, ℕ, ◌+◌, ◌-◌, ◌≤◌, Bool, true, false, List, length, drop, take, Ok, Err, refl, sym, ap, ◌∙◌, arith, length-drop}
 use Rattle.std.specs.Bool.{⊤, MatchBool}
 use Rattle.std.proofs.lemmas.List.{take_rest}
 use Rattle.dm_list.specs.Answer.{Answers}

@@ -5,7 +5,6 @@ use Rattle.dm_value.specs.declared.value.Value.{Value}
 use Rattle.dm_schema.specs.Layout.{Layout}
 use Rattle.dm_schema.specs.Names.{Text, same_name}
 use Rattle.dm_schema.specs.Effect.{ddl_effect}
-use Rattle.dm_schema.specs.declared.change.Change.{Change}
 use Rattle.dm_schema.specs.declared.fault.EffectFault.{EffectFault}
 use Rattle.dm_schema.specs.declared.table_name.TableName.{TableName}
 use Rattle.dm_binlog.specs.declared.event.Event.{Event}
@@ -37,8 +36,7 @@ use Rattle.dm_stream.specs.declared.cause.BadCause.TheVariants as cause
 use Rattle.dm_stream.specs.declared.event.LogFault.{LogFault}
 use Rattle.dm_stream.specs.Causes.{ddl_cause}
 use Rattle.dm_stream.specs.Sayings.{Said, Nothing, Ends, Rows, Statement as Stated}
-use Rattle.dm_stream.specs.Logs.{LogFile, Logged, Log}
-use Rattle.dm_walk.specs.declared.item.Place.{Place}
+use Rattle.dm_stream.specs.Logs.{Logged, Log}
 use Rattle.dm_walk.specs.declared.item.PlaceKind.{PlaceKind}
 use Rattle.dm_walk.specs.declared.item.PlaceKind.TheVariants as place
 use Rattle.dm_walk.specs.declared.item.Item.{Item}

@@ -7,6 +7,8 @@ mod history;
 mod item;
 mod rows;
 mod statement;
+#[cfg(test)]
+mod tests;
 mod track;
 mod walking;
 

@@ -1,4 +1,4 @@
-use Rattle.std.proofs.Common.{◌≡◌, ◌∷◌, ◌++◌, [], arith, ap, ◌∙◌}
+use Rattle.std.proofs.Common.{arith, ap}
 use Rattle.std.specs.Option.{option_map}
 use Rattle.dm_walk.specs.Causes.{row_cause}
 use Rattle.dm_walk.proofs.Images.{done_cause, known_end, known_first, known_next, known_stop, next_within}

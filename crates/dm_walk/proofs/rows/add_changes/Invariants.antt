@@ -1,4 +1,4 @@
-use Rattle.std.proofs.Common.{◌≡◌, ◌≤◌, ◌+◌, ◌-◌, length, drop}
+use Rattle.std.proofs.Common.{◌≤◌, ◌+◌, ◌-◌, length, drop}
 use Rattle.dm_walk.specs.Steps.{has_two}
 use Rattle.dm_walk.specs.Walks.{images_from}
 use Rattle.dm_walk.proofs.Images.{IsKnown}

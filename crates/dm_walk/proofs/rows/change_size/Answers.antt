@@ -1,5 +1,5 @@
 use Rattle.std.proofs.Common.{arith, rules}
-use Rattle.dm_walk.proofs.Sizes.{both_within, no_image, no_second, one_image, row_within, two_images}
+use Rattle.dm_walk.proofs.Sizes.{both_within, row_within, two_images}
 use Rattle.dm_walk.proofs.rows.change_size.Goals as goal
 
 pub returns-then-not-update-clause-within : goal.returns-then-not-update-clause-within

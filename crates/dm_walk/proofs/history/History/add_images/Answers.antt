@@ -1,6 +1,5 @@
-use Rattle.std.proofs.Common.{◌≡◌, ◌+◌, ◌∙◌, ap, sym, fold, List, Option, Some, None}
+use Rattle.std.proofs.Common.{◌≡◌, ◌+◌, ◌∙◌, ap, fold, List, Some, None}
 use Rattle.dm_schema.specs.Layout.{Layout}
-use Rattle.dm_stream.specs.declared.cause.BadCause.{BadCause}
 use Rattle.dm_stream.specs.Views.{seen}
 use Rattle.dm_walk.specs.declared.track.Track.{Track}
 use Rattle.dm_walk.specs.Steps.{images_of}

@@ -1,4 +1,4 @@
-use Rattle.std.proofs.Common.{Ok, Err}
+use Rattle.std.proofs.Common.{Ok}
 use Rattle.dm_walk.proofs.Says.{alter_fails, statement_says}
 use Rattle.dm_stream.specs.Views.{seen}
 use Rattle.dm_walk.proofs.history.History.alter.Goals as goal
