@@ -214,6 +214,33 @@ fn refuses_a_byte_too_much(rt: HostRuntime) -> Result<(), Fail> {
     Ok(())
 }
 
+/// A table with so many rows of one column.
+fn rows_of_one(alloc: Global, rows: u32) -> Result<Vec<u8>, AllocError> {
+    let mut text = b"CREATE TABLE t (c INT PRIMARY KEY); INSERT INTO t VALUES (1)".to_vec(alloc)?;
+    for _ in 1..rows {
+        text.extend_from_slice(b",(1)")?;
+    }
+    Ok(text)
+}
+
+/// All dumps together have 4,000,000 rows at most: 64 times 62,500.
+#[test]
+fn refuses_a_row_too_much(rt: HostRuntime) -> Result<(), Fail> {
+    let mut words = ["a.sql"; 65];
+    words[0] = "load";
+    let dump = rows_of_one(rt.alloc(), 62_501)?;
+    assert!(rt;
+        ends_with(
+            rt.alloc(),
+            &words,
+            files(&[&dump]),
+            9,
+            b"fault Limit Items\n"
+        )?
+    );
+    Ok(())
+}
+
 #[test]
 fn says_where_the_shards_of_a_task_go(rt: HostRuntime) -> Result<(), Fail> {
     let want = b"task m sources 2 shards 2 tables 1\n\
