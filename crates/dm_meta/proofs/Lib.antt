@@ -1,1 +1,6 @@
 pub mod Tokens
+pub mod Numbers
+pub mod Values
+pub mod Entries
+pub mod Documents
+pub mod ReadBack

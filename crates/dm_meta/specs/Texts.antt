@@ -97,11 +97,7 @@ checkpoint_with position window = if nat_le 1 window && nat_le window 100000 the
 
 abbrev pub checkpoint_in : Json → Option Checkpoint
 checkpoint_in value =
-    if is_record 3 value then
-    (whole_at (codes "position") value >>= λ position.
-    whole_at (codes "window") value >>= λ window.
-    checkpoint_with position window)
-    else None
+    if is_record 3 value then (whole_at (codes "position") value >>= λ position. whole_at (codes "window") value >>= λ window. checkpoint_with position window) else None
 
 abbrev pub entry_with : Json → Json → Option Entry
 entry_with first second =
@@ -126,14 +122,14 @@ entries_in (item value values) =
     entries_in values >>= λ entries.
     Some (entry ∷ entries)
 
-abbrev pub lock_in : Json → Option LockRecord
-lock_in value =
-    if is_record 2 value then
-    (get (codes "order") value >>= λ order.
-    as_array order >>= λ values.
+abbrev pub order_in : Json → Option LockRecord
+order_in value =
+    as_array value >>= λ values.
     entries_in values >>= λ entries.
-    Some (record { order = entries }))
-    else None
+    Some (record { order = entries })
+
+abbrev pub lock_in : Json → Option LockRecord
+lock_in value = if is_record 2 value then get (codes "order") value >>= order_in else None
 
 -- the value that a text is, if it is UTF-8 and a JSON document
 abbrev pub value_of : Text → Option Json

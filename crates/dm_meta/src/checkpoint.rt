@@ -1,4 +1,4 @@
-ghost use Rattle.std.specs.Prelude.{◌≡◌, ◌++◌, IfOk, OnOk};
+ghost use Rattle.std.specs.Prelude.{◌≡◌, ◌<◌, ◌≤◌, ◌^◌, ◌++◌, Some, IfOk, OnOk};
 ghost use Rattle.dm_list.specs.Answer.{Answers};
 ghost use Rattle.json.specs.Tree.{json_tokens, HasNumbers};
 ghost use Rattle.json.specs.Value.{value_view};
@@ -20,6 +20,8 @@ pub struct Checkpoint {
 
 pub fn write_checkpoint(alloc: Global, value: Checkpoint) -> Result<Bytes, AllocError>
     ensures text { IfOk result (λ text. text ≡ checkpoint_text value) }
+    ensures read_back { IfOk result (λ text.
+        1 ≤ value.window → value.window ≤ 100000 → checkpoint_of text ≡ Some value) }
 {
     let mut out = Writer::new(Vec::with_capacity(alloc, 64)?);
     put_checkpoint(&mut out, value)?;
@@ -29,6 +31,7 @@ pub fn write_checkpoint(alloc: Global, value: Checkpoint) -> Result<Bytes, Alloc
 fn put_checkpoint(out: &mut Writer, value: Checkpoint) -> Result<(), AllocError>
     ensures tokens { OnOk result (out.new.tokens
         ≡ out.old.tokens ++ json_tokens (checkpoint_json value)) }
+    ensures position { OnOk result (value.position < 2 ^ 64) }
     ensures before { out.new.before ≡ out.old.before }
 {
     out.begin_object()?;

@@ -1,9 +1,9 @@
-ghost use Rattle.std.specs.Prelude.{◌≡◌, ◌++◌, All, IsUtf8, IfOk, OnOk};
+ghost use Rattle.std.specs.Prelude.{◌≡◌, ◌<◌, ◌^◌, ◌++◌, Some, All, IsUtf8, IfOk, OnOk};
 ghost use Rattle.dm_list.specs.Answer.{Answers};
 ghost use Rattle.json.specs.Tree.{json_tokens, items_tokens, HasNumbers, ItemsHaveNumbers};
 ghost use Rattle.json.specs.Value.{value_view, items_view};
 ghost use Rattle.dm_meta.specs.Texts.{lock_json, lock_text, entry_json, entries_json};
-ghost use Rattle.dm_meta.specs.Texts.{entry_with, entry_in, entries_in, lock_in, lock_of, is_memory, or_not_meta};
+ghost use Rattle.dm_meta.specs.Texts.{entry_with, entry_of, entry_in, entries_in, order_in, lock_in, lock_of, is_memory, or_not_meta};
 
 use crate::MetaFault;
 use crate::reading::{as_array, is_record, value_of, whole};
@@ -29,6 +29,7 @@ pub struct LockRecord {
 pub fn write_lock(alloc: Global, value: &LockRecord) -> Result<Bytes, AllocError>
     requires { All (λ entry. IsUtf8 entry.shard) value.now.order }
     ensures text { IfOk result (λ text. text ≡ lock_text value.now) }
+    ensures read_back { IfOk result (λ text. lock_of text ≡ Some value.now) }
 {
     let mut out = Writer::new(Vec::with_capacity(alloc, 64)?);
     put_lock(&mut out, value)?;
@@ -39,6 +40,7 @@ fn put_lock(out: &mut Writer, value: &LockRecord) -> Result<(), AllocError>
     requires { All (λ entry. IsUtf8 entry.shard) value.now.order }
     ensures tokens { OnOk result (out.new.tokens
         ≡ out.old.tokens ++ json_tokens (lock_json value.now)) }
+    ensures items { OnOk result (All (λ entry. entry.item < 2 ^ 64) value.now.order) }
     ensures before { out.new.before ≡ out.old.before }
 {
     out.begin_object()?;
@@ -54,6 +56,7 @@ fn put_entries(out: &mut Writer, entries: &[Entry]) -> Result<(), AllocError>
     requires { All (λ entry. IsUtf8 entry.shard) entries.now }
     ensures tokens { OnOk result (out.new.tokens
         ≡ out.old.tokens ++ items_tokens (entries_json entries.now)) }
+    ensures items { OnOk result (All (λ entry. entry.item < 2 ^ 64) entries.now) }
     ensures before { out.new.before ≡ out.old.before }
 {
     for entry in entries {
@@ -66,6 +69,7 @@ fn put_entry(out: &mut Writer, entry: &Entry) -> Result<(), AllocError>
     requires { IsUtf8 entry.now.shard }
     ensures tokens { OnOk result (out.new.tokens
         ≡ out.old.tokens ++ json_tokens (entry_json entry.now)) }
+    ensures item { OnOk result (entry.now.item < 2 ^ 64) }
     ensures before { out.new.before ≡ out.old.before }
 {
     let shard = str::from_utf8(entry.shard.as_slice()).unwrap();
@@ -92,10 +96,23 @@ fn lock_in(alloc: Global, value: &Value<'_>) -> Result<LockRecord, MetaFault>
     if !is_record(value, 2) {
         return Err(MetaFault::NotMeta);
     }
-    let order = value.get("order").ok_or(MetaFault::NotMeta)?;
-    let values = as_array(order).ok_or(MetaFault::NotMeta)?;
-    let order = entries_in(alloc, values)?;
-    Ok(LockRecord { order })
+    match value.get("order") {
+        Some(order) => order_in(alloc, order),
+        None => Err(MetaFault::NotMeta),
+    }
+}
+
+fn order_in(alloc: Global, value: &Value<'_>) -> Result<LockRecord, MetaFault>
+    requires { HasNumbers (value_view value.now) }
+    ensures { Answers is_memory result (or_not_meta (order_in (value_view value.now))) }
+{
+    match as_array(value) {
+        Some(values) => {
+            let order = entries_in(alloc, values)?;
+            Ok(LockRecord { order })
+        }
+        None => Err(MetaFault::NotMeta),
+    }
 }
 
 fn entries_in(alloc: Global, values: &[Value<'_>]) -> Result<Sequence<Entry>, MetaFault>
@@ -104,7 +121,8 @@ fn entries_in(alloc: Global, values: &[Value<'_>]) -> Result<Sequence<Entry>, Me
 {
     let mut entries = Vec::new(alloc);
     for value in values {
-        entries.push(entry_in(alloc, value)?)?;
+        let entry = entry_in(alloc, value)?;
+        entries.push(entry)?;
     }
     Ok(Sequence::new(entries))
 }
@@ -114,9 +132,19 @@ fn entry_in(alloc: Global, value: &Value<'_>) -> Result<Entry, MetaFault>
     ensures { Answers is_memory result (or_not_meta (entry_in (value_view value.now))) }
 {
     match as_array(value) {
-        Some([first, second]) => entry_with(alloc, first, second),
-        _ => Err(MetaFault::NotMeta),
+        Some(values) => entry_of(alloc, values),
+        None => Err(MetaFault::NotMeta),
     }
+}
+
+fn entry_of(alloc: Global, values: &[Value<'_>]) -> Result<Entry, MetaFault>
+    requires { ItemsHaveNumbers (items_view values.now) }
+    ensures { Answers is_memory result (or_not_meta (entry_of (items_view values.now))) }
+{
+    if values.len() != 2 {
+        return Err(MetaFault::NotMeta);
+    }
+    entry_with(alloc, &values[0], &values[1])
 }
 
 fn entry_with(alloc: Global, first: &Value<'_>, second: &Value<'_>) -> Result<Entry, MetaFault>

@@ -21,8 +21,9 @@ pub(crate) fn value_of<'a>(
 {
     match Value::from_slice(alloc, text, scratch) {
         Ok(value) => Ok(value),
-        Err(Error::OutOfMemory) => Err(MetaFault::Memory),
-        Err(_) => Err(MetaFault::NotMeta),
+        Err(Error::Invalid) => Err(MetaFault::NotMeta),
+        // Of the others only want of memory comes.
+        Err(_) => Err(MetaFault::Memory),
     }
 }
 
