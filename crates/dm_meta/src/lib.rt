@@ -7,6 +7,8 @@ mod fault;
 mod lock;
 mod names;
 mod reading;
+#[cfg(test)]
+mod tests;
 mod writing;
 
 pub use checkpoint::{Checkpoint, read_checkpoint, write_checkpoint};

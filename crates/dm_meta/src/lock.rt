@@ -82,7 +82,8 @@ fn put_entry(out: &mut Writer, entry: &Entry) -> Result<(), AllocError>
 /// The lock record that a text says: a JSON object with just these members, in any order, whose entries are arrays of a
 /// string and a whole number.
 pub fn read_lock(alloc: Global, text: &[u8]) -> Result<LockRecord, MetaFault>
-    ensures { Answers is_memory result (or_not_meta (lock_of text.now)) }
+    ensures lock { Answers is_memory result (or_not_meta (lock_of text.now)) }
+    ensures text { IfOk result (λ lock. All (λ entry. IsUtf8 entry.shard) lock.order) }
 {
     let mut scratch = Scratch::new(alloc);
     let value = value_of(alloc, text, &mut scratch)?;
@@ -91,7 +92,8 @@ pub fn read_lock(alloc: Global, text: &[u8]) -> Result<LockRecord, MetaFault>
 
 fn lock_in(alloc: Global, value: &Value<'_>) -> Result<LockRecord, MetaFault>
     requires { HasNumbers (value_view value.now) }
-    ensures { Answers is_memory result (or_not_meta (lock_in (value_view value.now))) }
+    ensures value { Answers is_memory result (or_not_meta (lock_in (value_view value.now))) }
+    ensures text { IfOk result (λ lock. All (λ entry. IsUtf8 entry.shard) lock.order) }
 {
     if !is_record(value, 2) {
         return Err(MetaFault::NotMeta);
@@ -104,7 +106,8 @@ fn lock_in(alloc: Global, value: &Value<'_>) -> Result<LockRecord, MetaFault>
 
 fn order_in(alloc: Global, value: &Value<'_>) -> Result<LockRecord, MetaFault>
     requires { HasNumbers (value_view value.now) }
-    ensures { Answers is_memory result (or_not_meta (order_in (value_view value.now))) }
+    ensures value { Answers is_memory result (or_not_meta (order_in (value_view value.now))) }
+    ensures text { IfOk result (λ lock. All (λ entry. IsUtf8 entry.shard) lock.order) }
 {
     match as_array(value) {
         Some(values) => {
@@ -117,7 +120,8 @@ fn order_in(alloc: Global, value: &Value<'_>) -> Result<LockRecord, MetaFault>
 
 fn entries_in(alloc: Global, values: &[Value<'_>]) -> Result<Sequence<Entry>, MetaFault>
     requires { ItemsHaveNumbers (items_view values.now) }
-    ensures { Answers is_memory result (or_not_meta (entries_in (items_view values.now))) }
+    ensures value { Answers is_memory result (or_not_meta (entries_in (items_view values.now))) }
+    ensures text { IfOk result (λ order. All (λ entry. IsUtf8 entry.shard) order) }
 {
     let mut entries = Vec::new(alloc);
     for value in values {
@@ -129,7 +133,8 @@ fn entries_in(alloc: Global, values: &[Value<'_>]) -> Result<Sequence<Entry>, Me
 
 fn entry_in(alloc: Global, value: &Value<'_>) -> Result<Entry, MetaFault>
     requires { HasNumbers (value_view value.now) }
-    ensures { Answers is_memory result (or_not_meta (entry_in (value_view value.now))) }
+    ensures value { Answers is_memory result (or_not_meta (entry_in (value_view value.now))) }
+    ensures text { IfOk result (λ entry. IsUtf8 entry.shard) }
 {
     match as_array(value) {
         Some(values) => entry_of(alloc, values),
@@ -139,7 +144,8 @@ fn entry_in(alloc: Global, value: &Value<'_>) -> Result<Entry, MetaFault>
 
 fn entry_of(alloc: Global, values: &[Value<'_>]) -> Result<Entry, MetaFault>
     requires { ItemsHaveNumbers (items_view values.now) }
-    ensures { Answers is_memory result (or_not_meta (entry_of (items_view values.now))) }
+    ensures value { Answers is_memory result (or_not_meta (entry_of (items_view values.now))) }
+    ensures text { IfOk result (λ entry. IsUtf8 entry.shard) }
 {
     if values.len() != 2 {
         return Err(MetaFault::NotMeta);
@@ -149,7 +155,8 @@ fn entry_of(alloc: Global, values: &[Value<'_>]) -> Result<Entry, MetaFault>
 
 fn entry_with(alloc: Global, first: &Value<'_>, second: &Value<'_>) -> Result<Entry, MetaFault>
     requires { HasNumbers (value_view second.now) }
-    ensures { Answers is_memory result (or_not_meta (entry_with (value_view first.now) (value_view second.now))) }
+    ensures value { Answers is_memory result (or_not_meta (entry_with (value_view first.now) (value_view second.now))) }
+    ensures text { IfOk result (λ entry. IsUtf8 entry.shard) }
 {
     let shard = first.as_str().ok_or(MetaFault::NotMeta)?;
     let item = whole(second).ok_or(MetaFault::NotMeta)?;
