@@ -4,3 +4,4 @@ pub mod Values
 pub mod Entries
 pub mod Documents
 pub mod ReadBack
+pub mod Laws

@@ -11,4 +11,4 @@ returns-clause-read_back c least most =
     let value = c.args.value in
     let text : c.new.result ≡ checkpoint_text value = search rules in
     let tokens = c.in_ok-put_checkpoint.ensures.tokens ∙ ap (λ before. before ++ json_tokens (checkpoint_json value)) c.new-out.ensures.tokens in
-    ap checkpoint_of text ∙ checkpoint_read_back value c.in_ok-put_checkpoint.ensures.position (subst (λ written. IsUtf8 (print written)) tokens c.into_inner.ensures.utf8) least most
+    ap checkpoint_of text ∙ checkpoint_read_back value (record { fits = c.in_ok-put_checkpoint.ensures.position; least = least; most = most }) (subst (λ written. IsUtf8 (print written)) tokens c.into_inner.ensures.utf8)
