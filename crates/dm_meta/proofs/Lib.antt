@@ -5,3 +5,4 @@ pub mod Entries
 pub mod Documents
 pub mod ReadBack
 pub mod Laws
+pub mod Keys
