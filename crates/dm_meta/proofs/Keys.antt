@@ -5,11 +5,11 @@ use Rattle.std.specs.Str.{bytes_eq}
 use Rattle.std.proofs.lemmas.Bool.{eqb-true}
 use Rattle.std.proofs.lemmas.Slice.Eq.{bytes_eq-Decides}
 use Rattle.json.specs.Json.{Json, object, Members, no_members, member}
-use Rattle.json.specs.Find.{get, get_member, later_or}
+use Rattle.json.specs.Find.{get_member, later_or}
 use Rattle.json.specs.Strict.{keys}
 use Rattle.dm_meta.specs.declared.checkpoint.Checkpoint.{Checkpoint}
 use Rattle.dm_meta.specs.declared.lock.LockRecord.{LockRecord}
-use Rattle.dm_meta.specs.Texts.{Text, whole, whole_at, has_members, has_version, is_record, checkpoint_in, order_in, lock_in}
+use Rattle.dm_meta.specs.Texts.{Text, whole, whole_at, is_record, checkpoint_in, order_in, lock_in}
 
 -- a name is among these
 abbrev pub has : Text → List Text → Bool

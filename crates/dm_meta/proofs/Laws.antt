@@ -4,7 +4,7 @@ use Rattle.std.specs.Prelude.{All}
 use Rattle.json.specs.Json.{Json, document}
 use Rattle.dm_meta.specs.declared.checkpoint.Checkpoint.{Checkpoint}
 use Rattle.dm_meta.specs.declared.lock.LockRecord.{LockRecord}
-use Rattle.dm_meta.specs.Texts.{Text, ◌>>=◌, checkpoint_text, checkpoint_json, checkpoint_in, lock_text, lock_json, lock_in}
+use Rattle.dm_meta.specs.Texts.{Text, ◌>>=◌, checkpoint_text, checkpoint_in, lock_text, lock_in}
 use Rattle.dm_meta.proofs.ReadBack.{IsReadable, checkpoint_in-json, document-checkpoint_text, HasPlace, lock_in-json, document-lock_text}
 
 -- what is read of equal texts is equal

@@ -1,5 +1,5 @@
 -- Values that were read, seen as JSON.
-use Rattle.std.proofs.Common.{◌≡◌, ◌≢◌, ℕ, zero, suc, ◌<◌, List, [], ◌∷◌, length, get_or, Some, None, Option, refl, ap, arith}
+use Rattle.std.proofs.Common.{◌≡◌, ◌≢◌, ℕ, zero, suc, ◌<◌, List, [], ◌∷◌, length, get_or, Some, None, refl, ap, arith}
 use Rattle.std.specs.Borrow.{Bor}
 use Rattle.json.specs.Json.{Json, null, boolean, number, string, array, object, Items}
 use Rattle.json.specs.Find.{as_array}
