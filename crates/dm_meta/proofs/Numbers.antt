@@ -29,9 +29,11 @@ abbrev IsWhole : Text → Type 0
 IsWhole text = (all_ascii_digits text ≡ true) × (0 < length text) × (digits_value 10 text < 2 ^ 64)
 
 some_whole : (text : Text) → IsWhole text → whole_of text ≡ Some (digits_value 10 text)
+unfolding whole_of
 some_whole text is = rw (is.0, lt-ltb _ _ is.1, lt-ltb _ _ is.2) refl
 
 no_whole : (text : Text) → (IsWhole text → ⊥) → whole_of text ≡ None
+unfolding whole_of
 no_whole text isnt = by (all_ascii_digits text) (ltb 0 (length text)) (ltb (digits_value 10 text) (2 ^ 64)) refl refl refl where
   by : (digits some small : Bool) → all_ascii_digits text ≡ digits → ltb 0 (length text) ≡ some → ltb (digits_value 10 text) (2 ^ 64) ≡ small → cond (digits && some && small) (Some (digits_value 10 text)) None ≡ None
   by true true true d s m = absurd (isnt (d, ltb-true _ _ s, ltb-true _ _ m))

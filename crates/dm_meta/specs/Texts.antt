@@ -62,7 +62,7 @@ abbrev pub ◌>>=◌ : {A B : Type 0} → Option A → (A → Option B) → Opti
 value >>= next = option_and_then next value
 
 -- the number that a text of digits alone writes, below 2 ^ 64
-abbrev pub whole_of : Text → Option ℕ
+unfoldable pub whole_of : Text → Option ℕ
 whole_of text =
     if all_ascii_digits text && nat_lt 0 (length text) && nat_lt (digits_value 10 text) (2 ^ 64) then Some (digits_value 10 text) else None
 
