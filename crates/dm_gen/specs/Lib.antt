@@ -1,0 +1,5 @@
+pub mod Numbers
+pub mod Naming
+pub mod Schemas
+pub mod Steps
+pub mod Logs
