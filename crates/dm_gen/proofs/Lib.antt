@@ -1,3 +1,4 @@
 pub mod Dumped
 pub mod Walks
 pub mod Rooms
+pub mod Logging

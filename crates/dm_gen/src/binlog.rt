@@ -7,8 +7,8 @@ ghost use Rattle.dm_encode.specs.Kinds.{has_map};
 ghost use Rattle.dm_encode.specs.Events.{format_event, map_event, query_event, rows_event, rows_of};
 ghost use Rattle.dm_gen.specs.Naming.{own_name};
 ghost use Rattle.dm_gen.specs.Schemas.{schema_after, statement};
-ghost use Rattle.dm_gen.specs.Steps.{step, walk_at};
-ghost use Rattle.dm_gen.specs.Logs.{binlog, is_last, log_at, logged};
+ghost use Rattle.dm_gen.specs.Steps.{step};
+ghost use Rattle.dm_gen.specs.Logs.{binlog, is_last, logged, statement_behind};
 
 use crate::naming::own_name;
 use crate::schemas::{schema_after, statement};
@@ -91,6 +91,25 @@ fn is_last(number: u32) -> bool
     number % 1000 == 999 && number < 3000
 }
 
+/// Adds the statement that comes behind a step, if one does.
+fn push_statement_behind(
+    alloc: Global,
+    bytes: &mut Vec<u8>,
+    source: u8,
+    own: &TableName,
+    number: u32,
+) -> Result<(), AllocError>
+    requires source { source < 4 }
+    requires own { own.now ≡ own_name source }
+    ensures { OnOk result (bytes.new.items ≡ bytes.old.items ++ statement_behind source number) }
+{
+    if is_last(number) {
+        push_statement(alloc, bytes, own, done_before(number))
+    } else {
+        Ok(())
+    }
+}
+
 /// The schemas by how many statements are done.
 fn schemas(alloc: Global) -> Result<Vec<Schema>, AllocError>
     ensures { IfOk result (λ schemas. schemas.items ≡ map schema_after (range_with_len 0 4)) }
@@ -126,9 +145,7 @@ fn push_step(
     let change = walker.step(alloc, number)?;
     push_map(alloc, bytes, source, own, schema)?;
     push_rows(alloc, bytes, source, schema, &change)?;
-    if is_last(number) {
-        push_statement(alloc, bytes, own, done)?;
-    }
+    push_statement_behind(alloc, bytes, source, own, number)?;
     Ok(())
 }
 
