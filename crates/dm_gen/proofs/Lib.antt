@@ -1,4 +1,5 @@
-pub mod Dumped
+pub mod Ranges
 pub mod Walks
 pub mod Rooms
 pub mod Logging
+pub mod DumpFiles

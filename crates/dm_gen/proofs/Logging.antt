@@ -38,15 +38,15 @@ unfolding logged
 step_logged source number own schema w change old first second third named is stepped a b c =
     let done = done_before number in
     let map_is : map_event (source + 1) own.db own.table schema ≡ map_event (source + 1) (own_name source).db (own_name source).table (schema_after done) =
-        ap (λ (n : TableName). map_event (source + 1) n.db n.table schema) named ∙ ap (λ s. map_event (source + 1) (own_name source).db (own_name source).table s) is in
+    ap (λ (n : TableName). map_event (source + 1) n.db n.table schema) named ∙ ap (λ s. map_event (source + 1) (own_name source).db (own_name source).table s) is in
     let rows_is : rows_event (source + 1) schema change ≡ rows_event (source + 1) (schema_after done) (step number w).change =
-        ap (λ s. rows_event (source + 1) s change) is ∙ ap (λ r. rows_event (source + 1) (schema_after done) r) stepped in
+    ap (λ s. rows_event (source + 1) s change) is ∙ ap (λ r. rows_event (source + 1) (schema_after done) r) stepped in
     joined old first second third _ _ _ _ (statement_behind source number) a b c map_is rows_is
   where
-  joined : (old first second third own_map own_rows its_map its_rows behind : List ℕ) → first ≡ old ++ own_map → second ≡ first ++ own_rows → third ≡ second ++ behind → own_map ≡ its_map → own_rows ≡ its_rows → third ≡ old ++ ((its_map ++ its_rows) ++ behind)
-  joined old first second third own_map own_rows its_map its_rows behind a b c d e =
-      c ∙ (ap (λ xs. xs ++ behind) (b ∙ (ap (λ xs. xs ++ own_rows) (a ∙ ap (λ xs. old ++ xs) d) ∙ ap (λ xs. (old ++ its_map) ++ xs) e))
-      ∙ (ap (λ xs. xs ++ behind) (append_assoc old its_map its_rows) ∙ append_assoc old (its_map ++ its_rows) behind))
+    joined : (old first second third own_map own_rows its_map its_rows behind : List ℕ) → first ≡ old ++ own_map → second ≡ first ++ own_rows → third ≡ second ++ behind → own_map ≡ its_map → own_rows ≡ its_rows → third ≡ old ++ ((its_map ++ its_rows) ++ behind)
+    joined old first second third own_map own_rows its_map its_rows behind a b c d e =
+        c ∙ (ap (λ xs. xs ++ behind) (b ∙ (ap (λ xs. xs ++ own_rows) (a ∙ ap (λ xs. old ++ xs) d) ∙ ap (λ xs. (old ++ its_map) ++ xs) e))
+        ∙ (ap (λ xs. xs ++ behind) (append_assoc old its_map its_rows) ∙ append_assoc old (its_map ++ its_rows) behind))
 
 -- before the first step
 pub log_begins : (number source : ℕ) (w : Walk) (bytes : List ℕ) → w ≡ first_walk number source → bytes ≡ magic ++ format_event → (w ≡ walk_at number source 0) × (bytes ≡ log_at number source 0)

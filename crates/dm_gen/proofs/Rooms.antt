@@ -26,8 +26,8 @@ columns_few done = by (ltb done 1) where
 image_short : (done : ℕ) (r : LiveRow) → length (row_image (columns_after done) (row_of done r)) ≤ 100
 image_short done r = by (ltb done 1) (ltb done 2) where
   by : (early narrow : Bool)
-       → length (row_image (id_column ∷ u_column ∷ integer_column (codes "v") (cond narrow 4 8) false default.Nothing ∷ cond early [] (d_column ∷ [])) (value.Int (pos r.id) ∷ value.Int (pos r.u) ∷ value.Int (pos r.v) ∷ cond early [] (value.Int (pos r.d) ∷ [])))
-       ≤ 100
+      → length (row_image (id_column ∷ u_column ∷ integer_column (codes "v") (cond narrow 4 8) false default.Nothing ∷ cond early [] (d_column ∷ [])) (value.Int (pos r.id) ∷ value.Int (pos r.u) ∷ value.Int (pos r.v) ∷ cond early [] (value.Int (pos r.d) ∷ [])))
+      ≤ 100
   by true true = simp (length-append, length-le, length-bitmap) (omega arith)
   by true false = simp (length-append, length-le, length-bitmap) (omega arith)
   by false true = simp (length-append, length-le, length-bitmap) (omega arith)
@@ -51,7 +51,7 @@ two_short done old new =
 images_short : (j : ℕ) (w : Walk) → length (images (columns_after (done_before j)) (step j w).change) ≤ 200
 images_short j w = by (ltb (j % 4) 2) (eqb (j % 4) 2) where
   by : (insert update : Bool)
-       → length (images (columns_after (done_before j)) (cond insert (inserted (done_before j) (advanced w)) (cond update (updated (done_before j) (advanced w)) (deleted (done_before j) (advanced w)))).change) ≤ 200
+      → length (images (columns_after (done_before j)) (cond insert (inserted (done_before j) (advanced w)) (cond update (updated (done_before j) (advanced w)) (deleted (done_before j) (advanced w)))).change) ≤ 200
   by true update = let short = one_short (done_before j) (new_row (done_before j) (advanced w)) in omega (arith, short)
   by false true = two_short (done_before j) (chosen (advanced w)) (with_v ((advanced w).x % 1000) (chosen (advanced w)))
   by false false = let short = one_short (done_before j) (chosen (advanced w)) in omega (arith, short)
@@ -65,7 +65,7 @@ step_small source j w =
 statement_short : (done : ℕ) (table : List ℕ) → length table ≤ 255 → length (statement done table) ≤ 2 ^ 31
 statement_short done table short = by (eqb done 0) (eqb done 1) where
   by : (first second : Bool)
-       → length (cond first (codes "ALTER TABLE `" ++ table ++ codes "` ADD COLUMN `d` INT NOT NULL DEFAULT 5") (cond second (codes "ALTER TABLE `" ++ table ++ codes "` MODIFY COLUMN `v` BIGINT NOT NULL") (codes "CREATE UNIQUE INDEX `w` ON `" ++ table ++ codes "` (`u`,`v`)"))) ≤ 2 ^ 31
+      → length (cond first (codes "ALTER TABLE `" ++ table ++ codes "` ADD COLUMN `d` INT NOT NULL DEFAULT 5") (cond second (codes "ALTER TABLE `" ++ table ++ codes "` MODIFY COLUMN `v` BIGINT NOT NULL") (codes "CREATE UNIQUE INDEX `w` ON `" ++ table ++ codes "` (`u`,`v`)"))) ≤ 2 ^ 31
   by true second = simp length-append (omega (arith, short))
   by false true = simp length-append (omega (arith, short))
   by false false = simp length-append (omega (arith, short))

@@ -15,7 +15,7 @@ pub record IsWalk (j : ℕ) (w : Walk) : Type 0 where
 kept : (j : ℕ) (w : Walk) → IsWalk j w → IsWalk (j + 1) (step j w).walk
 kept j w is = by (ltb (j % 4) 2) (eqb (j % 4) 2) refl refl where
   by : (insert update : Bool) → ltb (j % 4) 2 ≡ insert → eqb (j % 4) 2 ≡ update
-       → IsWalk (j + 1) (cond insert (inserted (done_before j) (advanced w)) (cond update (updated (done_before j) (advanced w)) (deleted (done_before j) (advanced w)))).walk
+      → IsWalk (j + 1) (cond insert (inserted (done_before j) (advanced w)) (cond update (updated (done_before j) (advanced w)) (deleted (done_before j) (advanced w)))).walk
   by true update early third =
       let early = ltb-true (j % 4) 2 early in
       record { next = omega (arith, is.next); long = simp length-append (omega (arith, is.long, early)) }

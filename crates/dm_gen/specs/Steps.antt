@@ -55,7 +55,7 @@ abbrev pub inserted : ℕ → Walk → Step
 inserted done w =
     record {
       walk = record { x = w.x; next = w.next + 1; freed = None; live = w.live ++ new_row done w ∷ [] };
-      change = change.Insert (row_of done (new_row done w))
+      change = change.Insert (row_of done (new_row done w));
     }
 
 -- the place that x chooses, and the row there
@@ -73,7 +73,7 @@ abbrev pub updated : ℕ → Walk → Step
 updated done w =
     record {
       walk = record { x = w.x; next = w.next; freed = w.freed; live = slice_set w.live (place w) (with_v (w.x % 1000) (chosen w)) };
-      change = change.Update (row_of done (chosen w)) (row_of done (with_v (w.x % 1000) (chosen w)))
+      change = change.Update (row_of done (chosen w)) (row_of done (with_v (w.x % 1000) (chosen w)));
     }
 
 -- the list closes up, and the chosen row's u is free
@@ -81,7 +81,7 @@ abbrev pub deleted : ℕ → Walk → Step
 deleted done w =
     record {
       walk = record { x = w.x; next = w.next; freed = Some (chosen w).u; live = remove w.live (place w) };
-      change = change.Delete (row_of done (chosen w))
+      change = change.Delete (row_of done (chosen w));
     }
 
 -- how many statements are done before a step

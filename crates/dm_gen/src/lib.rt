@@ -2,8 +2,13 @@
 #![tactic(auto)]
 
 mod binlog;
+mod dumps;
 mod live_row;
 mod naming;
 mod numbers;
 mod schemas;
+mod task;
+mod task_files;
 mod walker;
+
+pub use task_files::{Generated, generate};

@@ -123,12 +123,7 @@ pub fn schema_after(alloc: Global, done: u32) -> Result<Schema, AllocError>
 }
 
 /// The three texts of a statement of which a table's name stands between the first two.
-fn joined(
-    alloc: Global,
-    front: &[u8],
-    table: &[u8],
-    behind: &[u8],
-) -> Result<Vec<u8>, AllocError>
+fn joined(alloc: Global, front: &[u8], table: &[u8], behind: &[u8]) -> Result<Vec<u8>, AllocError>
     ensures { IfOk result (λ text. text.items ≡ (front.now ++ table.now) ++ behind.now) }
 {
     let mut text = front.to_vec(alloc)?;

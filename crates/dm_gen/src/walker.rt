@@ -143,10 +143,7 @@ impl Walker {
             ..old
         };
         self.live[place] = new;
-        Ok(RowChange::Update(
-            row_of(alloc, old, done)?,
-            row_of(alloc, new, done)?,
-        ))
+        Ok(RowChange::Update(row_of(alloc, old, done)?, row_of(alloc, new, done)?))
     }
 
     fn delete(&mut self, alloc: Global, done: u32) -> Result<RowChange, AllocError>

@@ -1,5 +1,5 @@
 use Rattle.std.proofs.Common.{sym, ◌∙◌}
-use Rattle.dm_gen.proofs.Dumped.{dumped_none, dumped_pushed}
+use Rattle.dm_gen.proofs.Ranges.{dumped_none, dumped_pushed}
 use Rattle.dm_gen.proofs.walker.dumped_rows.Goals as goal
 
 pub loop-number-init : goal.loop-number-init
