@@ -3,3 +3,4 @@ pub mod Walks
 pub mod Rooms
 pub mod Logging
 pub mod DumpFiles
+pub mod Laws

@@ -9,6 +9,8 @@ mod numbers;
 mod schemas;
 mod task;
 mod task_files;
+#[cfg(test)]
+mod tests;
 mod walker;
 
 pub use task_files::{Generated, generate};
