@@ -4,3 +4,4 @@ pub mod Rooms
 pub mod Logging
 pub mod DumpFiles
 pub mod Laws
+pub mod Shorts

@@ -48,7 +48,7 @@ two_short done old new =
     omega (arith, first, second, all)
 
 -- the images of a step's change
-images_short : (j : ℕ) (w : Walk) → length (images (columns_after (done_before j)) (step j w).change) ≤ 200
+pub images_short : (j : ℕ) (w : Walk) → length (images (columns_after (done_before j)) (step j w).change) ≤ 200
 images_short j w = by (ltb (j % 4) 2) (eqb (j % 4) 2) where
   by : (insert update : Bool)
       → length (images (columns_after (done_before j)) (cond insert (inserted (done_before j) (advanced w)) (cond update (updated (done_before j) (advanced w)) (deleted (done_before j) (advanced w)))).change) ≤ 200
