@@ -14,7 +14,7 @@ use Rattle.dm_gen.specs.Naming.{own_name}
 use Rattle.dm_gen.specs.Schemas.{columns_after, schema_after}
 use Rattle.dm_gen.specs.Steps.{Walk, done_before, first_walk, step, walk_at}
 use Rattle.dm_gen.specs.Logs.{log_at, logged, statement_behind}
-use Rattle.dm_gen.proofs.Rooms.{step_small}
+use Rattle.dm_gen.proofs.Rooms.{step_room}
 use Rattle.dm_gen.proofs.Walks.{is_walk}
 
 -- the schema of a step
@@ -25,10 +25,10 @@ schema_at number done schemas schema few all is here =
 pub step_fits : (number : ℕ) (schema : Layout) (change : RowChange) → schema ≡ schema_after (done_before number) → IsTrue (list_all (λ row. pointwise fits row (columns_after (done_before number))) (rows_of change)) → IsTrue (list_all (λ row. pointwise fits row schema.columns) (rows_of change))
 step_fits number schema change is fit = subst (λ (s : Layout). IsTrue (list_all (λ row. pointwise fits row s.columns) (rows_of change))) (sym is) fit
 
-pub step_room : (source number : ℕ) (schema : Layout) (w : Walk) (change : RowChange) → schema ≡ schema_after (done_before number) → change ≡ (step number w).change → length (rows_event (source + 1) schema change) < 2 ^ 32
-step_room source number schema w change is stepped =
+pub step_small : (source number : ℕ) (schema : Layout) (w : Walk) (change : RowChange) → schema ≡ schema_after (done_before number) → change ≡ (step number w).change → length (rows_event (source + 1) schema change) < 2 ^ 32
+step_small source number schema w change is stepped =
     let P : Layout → RowChange → Type 0 = λ s c. length (rows_event (source + 1) s c) < 2 ^ 32 in
-    subst (λ s. P s change) (sym is) (subst (λ c. P (schema_after (done_before number)) c) (sym stepped) (step_small source number w))
+    subst (λ s. P s change) (sym is) (subst (λ c. P (schema_after (done_before number)) c) (sym stepped) (let few = step_room source number w in omega (arith, few)))
 
 -- a map, rows, and what comes behind them
 pub step_logged : (source number : ℕ) (own : TableName) (schema : Layout) (w : Walk) (change : RowChange) (old first second third : List ℕ) → own ≡ own_name source → schema ≡ schema_after (done_before number) → change ≡ (step number w).change

@@ -1,71 +1,24 @@
 -- Each file has fewer than 2^32 bytes.
-use Rattle.std.proofs.Common.{◌≡◌, ℕ, zero, suc, ◌+◌, ◌*◌, ◌<◌, ◌≤◌, ◌^◌, Bool, true, false, cond, ltb, eqb, List, [], ◌∷◌, ◌++◌, length, map, ap, ◌∙◌, sym, subst, arith, length-append, add-one}
-use Rattle.std.specs.Prelude.{codes}
-use Rattle.std.specs.List.{concat}
-use Rattle.dm_schema.specs.declared.column.Column.{Column}
-use Rattle.dm_schema.specs.declared.column.DefaultRule.TheVariants as default
-use Rattle.dm_schema.specs.declared.row_change.RowChange.{RowChange}
-use Rattle.dm_schema.specs.declared.row_change.RowChange.TheVariants as change
-use Rattle.dm_encode.specs.Events.{columns_body, counted, flags, images, map_body, format_body, map_event, query_event, rows_body, rows_event, rows_front, rows_kind}
-use Rattle.dm_encode.specs.Numbers.{le_bytes}
-use Rattle.dm_encode.proofs.Bits.{length-bitmap}
+use Rattle.std.proofs.Common.{◌≡◌, ℕ, zero, suc, ◌+◌, ◌*◌, ◌<◌, ◌≤◌, ◌^◌, Bool, true, false, cond, eqb, List, [], ◌∷◌, ◌++◌, length, map, refl, arith, length-append, lit<}
+use Rattle.std.specs.Prelude.{◌&&◌, nat_lt}
+use Rattle.std.specs.List.{flat_map, range_with_len}
+use Rattle.std.specs.Fmt.{decimal}
+use Rattle.std.proofs.lemmas.Bool.{lt-ltb}
+use Rattle.std.proofs.lemmas.Fmt.{length-decimal-le}
+use Rattle.dm_text.specs.Names.{behind_comma, doubled, quoted, with_commas}
+use Rattle.dm_text.specs.Values.{tuple_text}
+use Rattle.dm_encode.specs.Events.{format_body, map_event, rows_event}
 use Rattle.dm_encode.proofs.Bodies.{length-event}
 use Rattle.dm_encode.proofs.Digits.{length-le}
-use Rattle.dm_encode.proofs.Sizes.{length-query}
+use Rattle.dm_write.specs.Dumps.{tuples_text}
+use Rattle.dm_files.specs.Files.{are_short}
 use Rattle.dm_gen.specs.Naming.{database, table_of}
-use Rattle.dm_gen.specs.Schemas.{columns_after, d_column, id_column, integer_column, schema_after, statement, u_column}
-use Rattle.dm_gen.specs.Steps.{Walk, done_before, step, walk_at}
+use Rattle.dm_gen.specs.Schemas.{columns_after, schema_after}
+use Rattle.dm_gen.specs.Steps.{Walk, done_before, dumped_row, dumped_rows, row_of, step, walk_at}
 use Rattle.dm_gen.specs.Logs.{binlog, change_events, is_last, log_at, logged, statement_behind, statement_event}
-use Rattle.dm_gen.proofs.Rooms.{images_short}
-
--- Events.
-
-columns_room : (done : ℕ) → length (columns_body (columns_after done)) ≤ 100
-columns_room done = by (ltb done 1) (ltb done 2) where
-  by : (early narrow : Bool) → length (columns_body (id_column ∷ u_column ∷ integer_column (codes "v") (cond narrow 4 8) false default.Nothing ∷ cond early [] (d_column ∷ []))) ≤ 100
-  by true true = simp (length-append, length-le, length-bitmap) (omega arith)
-  by true false = simp (length-append, length-le, length-bitmap) (omega arith)
-  by false true = simp (length-append, length-le, length-bitmap) (omega arith)
-  by false false = simp (length-append, length-le, length-bitmap) (omega arith)
-
-around_columns : (id : ℕ) (db table columns : List ℕ) → length (concat (le_bytes 6 id ∷ flags ∷ counted db ∷ counted table ∷ columns ∷ [])) ≤ 20 + length db + length table + length columns
-around_columns id db table columns = simp (length-append, length-le) (omega arith)
-
-map_room : (source done : ℕ) → length (map_event (source + 1) database (table_of source) (schema_after done)) ≤ 200
-map_room source done =
-    let long = length-event 19 (map_body (source + 1) database (table_of source) (schema_after done)) in
-    let columns = columns_room done in
-    let parts = around_columns (source + 1) database (table_of source) (columns_body (columns_after done)) in
-    omega (arith, long, columns, parts)
-
-front_room : (id done : ℕ) (change : RowChange) → length (rows_front id (columns_after done) change) ≤ 50
-front_room id done rows = by (ltb done 1) rows where
-  by : (early : Bool) (rows : RowChange) → length (rows_front id (id_column ∷ u_column ∷ integer_column (codes "v") (cond (ltb done 2) 4 8) false default.Nothing ∷ cond early [] (d_column ∷ [])) rows) ≤ 50
-  by true (change.Insert row) = simp (length-append, length-le, length-bitmap) (omega arith)
-  by true (change.Update old new) = simp (length-append, length-le, length-bitmap) (omega arith)
-  by true (change.Delete row) = simp (length-append, length-le, length-bitmap) (omega arith)
-  by false (change.Insert row) = simp (length-append, length-le, length-bitmap) (omega arith)
-  by false (change.Update old new) = simp (length-append, length-le, length-bitmap) (omega arith)
-  by false (change.Delete row) = simp (length-append, length-le, length-bitmap) (omega arith)
-
-rows_room : (id done : ℕ) (change : RowChange) → length (images (columns_after done) change) ≤ 200 → length (rows_event id (schema_after done) change) ≤ 300
-rows_room id done change few =
-    let long = length-event (rows_kind change) (rows_body id (schema_after done) change) in
-    let front = front_room id done change in
-    let parts = length-append (rows_front id (columns_after done) change) (images (columns_after done) change) in
-    omega (arith, long, front, parts, few)
-
-statement_room : (source done : ℕ) → length (query_event database (statement done (table_of source))) ≤ 200
-statement_room source done =
-    let long = length-query database (statement done (table_of source)) in
-    let few = by (eqb done 0) (eqb done 1) in
-    omega (arith, long, few)
-  where
-  by : (first second : Bool)
-       → length (cond first (codes "ALTER TABLE `" ++ table_of source ++ codes "` ADD COLUMN `d` INT NOT NULL DEFAULT 5") (cond second (codes "ALTER TABLE `" ++ table_of source ++ codes "` MODIFY COLUMN `v` BIGINT NOT NULL") (codes "CREATE UNIQUE INDEX `w` ON `" ++ table_of source ++ codes "` (`u`,`v`)"))) ≤ 100
-  by true second = omega arith
-  by false true = omega arith
-  by false false = omega arith
+use Rattle.dm_gen.specs.Dumps.{dumped, rows_file}
+use Rattle.dm_gen.specs.Generated.{files}
+use Rattle.dm_gen.proofs.Rooms.{map_room, statement_room, step_room}
 
 -- Logs.
 
@@ -79,7 +32,7 @@ step_length : (source j : ℕ) (w : Walk) → length (logged source j w) ≤ 700
 unfolding logged
 step_length source j w =
     let map = map_room source (done_before j) in
-    let rows = rows_room (source + 1) (done_before j) (step j w).change (images_short j w) in
+    let rows = step_room source j w in
     let behind = behind_room source j in
     let both = length-append (map_event (source + 1) database (table_of source) (schema_after (done_before j))) (rows_event (source + 1) (schema_after (done_before j)) (step j w).change) in
     let all = length-append (change_events source (done_before j) (step j w).change) (statement_behind source j) in
@@ -94,5 +47,67 @@ log_length number source (suc j) =
     let all = length-append (log_at number source j) (logged source j (walk_at number source j)) in
     omega (arith, before, own, all)
 
-pub binlog_short : (number source : ℕ) → length (binlog number source) < 2 ^ 32
+binlog_short : (number source : ℕ) → length (binlog number source) < 2 ^ 32
 binlog_short number source = let long = log_length number source 4000 in omega (arith, long)
+
+-- Dumps.
+
+doubled_few : (b : ℕ) → length (doubled b) ≤ 2
+doubled_few b = by (eqb b 96) where
+  by : (is : Bool) → length (cond is (96 ∷ 96 ∷ []) (b ∷ [])) ≤ 2
+  by true = omega arith
+  by false = omega arith
+
+digits_few : (n : ℕ) → n < 10000000 → length (decimal n) ≤ 7
+digits_few n small = length-decimal-le 7 n (lit< tt) small (omega (arith, small))
+
+row_length : (source i : ℕ) → source < 4 → i < 1000 → length (tuple_text (columns_after 0) (row_of 0 (dumped_row source i))) ≤ 30
+row_length source i known few =
+    let id = digits_few (source * 1000000 + i) (omega (arith, known, few)) in
+    let v = digits_few i (omega (arith, few)) in
+    simp length-append (omega (arith, id, v))
+
+rows_length : (source from n : ℕ) → source < 4 → from + n ≤ 1000 → length (flat_map behind_comma (map (tuple_text (columns_after 0)) (map (row_of 0) (map (dumped_row source) (range_with_len from n))))) ≤ 31 * n
+rows_length source from zero known few = omega arith
+rows_length source from (suc n) known few =
+    let own = row_length source from known (omega (arith, few)) in
+    let behind = rows_length source (from + 1) n known (omega (arith, few)) in
+    let all = length-append (tuple_text (columns_after 0) (row_of 0 (dumped_row source from))) (flat_map behind_comma (map (tuple_text (columns_after 0)) (map (row_of 0) (map (dumped_row source) (range_with_len (from + 1) n))))) in
+    omega (arith, own, behind, all)
+
+-- the first piece has no comma before it
+commas_fewer : (pieces : List (List ℕ)) → length (with_commas pieces) ≤ length (flat_map behind_comma pieces)
+commas_fewer [] = omega arith
+commas_fewer (piece ∷ pieces) =
+    let one = length-append piece (flat_map behind_comma pieces) in
+    omega (arith, one)
+
+tuples_length : (source n : ℕ) → source < 4 → n ≤ 1000 → length (tuples_text (columns_after 0) (dumped source n)) ≤ 31 * n
+unfolding dumped_rows
+tuples_length source n known few =
+    let fewer = commas_fewer (map (tuple_text (columns_after 0)) (dumped source n)) in
+    let all = rows_length source 0 n known (omega (arith, few)) in
+    omega (arith, fewer, all)
+
+rows_short : (source : ℕ) → source < 4 → length (rows_file source) < 2 ^ 32
+rows_short source known =
+    let name = doubled_few (48 + source) in
+    let tuples = tuples_length source 1000 known (omega arith) in
+    simp length-append (omega (arith, name, tuples))
+
+-- All files.
+
+below : (text : List ℕ) → length text < 2 ^ 32 → nat_lt (length text) (2 ^ 32) ≡ true
+below text short = lt-ltb (length text) (2 ^ 32) short
+
+both : (first second : Bool) → first ≡ true → second ≡ true → (first && second) ≡ true
+both true second is known = known
+both false second is known = absurd cc
+
+-- those of the CREATE TABLEs are computed
+pub files_short : (number : ℕ) → are_short (files number) ≡ true
+files_short number =
+    both _ _ (below (binlog number 0) (binlog_short number 0)) (both _ _ (below (rows_file 0) (rows_short 0 (lit< tt)))
+    (both _ _ (below (binlog number 1) (binlog_short number 1)) (both _ _ (below (rows_file 1) (rows_short 1 (lit< tt)))
+    (both _ _ (below (binlog number 2) (binlog_short number 2)) (both _ _ (below (rows_file 2) (rows_short 2 (lit< tt)))
+    (both _ _ (below (binlog number 3) (binlog_short number 3)) (both _ _ (below (rows_file 3) (rows_short 3 (lit< tt))) refl)))))))

@@ -1,4 +1,4 @@
-use Rattle.dm_gen.proofs.Logging.{schema_at, step_fits, step_logged, step_room}
+use Rattle.dm_gen.proofs.Logging.{schema_at, step_fits, step_logged, step_small}
 use Rattle.dm_gen.proofs.binlog.push_step.Goals as goal
 
 pub push_rows-requires-clause-fits : goal.push_rows-requires-clause-fits
@@ -8,7 +8,7 @@ push_rows-requires-clause-fits c =
 
 pub push_rows-requires-clause-size : goal.push_rows-requires-clause-size
 push_rows-requires-clause-size c =
-    step_room c.args.source c.args.number c.index-schemas-done.result c.args.walker.now c.in_ok-change.change
+    step_small c.args.source c.args.number c.index-schemas-done.result c.args.walker.now c.in_ok-change.change
     (schema_at c.args.number c.done_before-done.result c.args.schemas.now c.index-schemas-done.result c.requires.number c.requires.schemas c.done_before-done.ensures c.index-schemas-done.is) c.in_ok-change.ensures.change
 
 pub returns-clause-bytes : goal.returns-clause-bytes
