@@ -1,5 +1,5 @@
 -- The rows of a dump stand behind its CREATE TABLE.
-use Rattle.std.proofs.Common.{◌≡◌, ℕ, suc, List, [], ◌∷◌, ◌++◌, length, drop, map, refl, ap, sym, ◌∙◌}
+use Rattle.std.proofs.Common.{◌≡◌, ℕ, suc, List, [], ◌++◌, length, drop, refl, ap, ◌∙◌}
 use Rattle.std.proofs.Math.Seq.{drop-append_seam}
 use Rattle.std.proofs.lemmas.List.{append-nil}
 use Rattle.dm_value.specs.declared.value.Value.{Value}

@@ -1,19 +1,19 @@
 -- That what is generated is lawful: each statement takes the schema to the next one, and the task and its files go together.
-use Rattle.std.proofs.Common.{◌≡◌, ℕ, ◌+◌, true, false, List, [], ◌∷◌, Ok, map, refl}
-use Rattle.std.specs.Prelude.{codes}
-use Rattle.dm_schema.specs.declared.change.Change.{Change}
+use Rattle.std.proofs.Common.{◌≡◌, ℕ, true, false, List, [], ◌∷◌, Ok, map, refl, sym, subst}
+use Rattle.std.specs.Prelude.{IsTrue}
 use Rattle.dm_schema.specs.declared.change.Change.TheVariants as change
 use Rattle.dm_schema.specs.declared.change.Spot.TheVariants as spot
 use Rattle.dm_schema.specs.Effect.{Reading, ddl_effect}
-use Rattle.dm_schema.specs.declared.table_name.TableName.{TableName}
-use Rattle.dm_task.specs.declared.task.Shard.{Shard}
+use Rattle.dm_task.specs.declared.task.Task.{Task}
 use Rattle.dm_task.specs.Shards.{shards_of, targets_of}
 use Rattle.dm_task.specs.TaskFile.{counted}
-use Rattle.dm_files.specs.Files.{are_files}
+use Rattle.dm_files.specs.declared.files.NamedFile.{NamedFile}
+use Rattle.dm_files.specs.Files.{are_files, are_short}
 use Rattle.dm_gen.specs.Naming.{own_name, source_name, target_name}
 use Rattle.dm_gen.specs.Schemas.{d_column, schema_after, v_column, w_key}
 use Rattle.dm_gen.specs.Tasks.{all_sources, task}
 use Rattle.dm_gen.specs.Generated.{files}
+use Rattle.dm_gen.proofs.Shorts.{files_short}
 
 -- What the statements change. No default is read for it.
 
@@ -45,3 +45,11 @@ task_counted = refl
 -- the files are those that the task names, in its order
 pub task_files : (number : ℕ) → are_files task (files number) ≡ true
 task_files number = refl
+
+-- both of what the code makes
+
+pub made_named : (number : ℕ) (own : Task) (made : List NamedFile) → own ≡ task → made ≡ files number → IsTrue (are_files own made)
+made_named number own made same is = rw (same, is) (task_files number)
+
+pub made_short : (number : ℕ) (made : List NamedFile) → made ≡ files number → IsTrue (are_short made)
+made_short number made is = subst (λ (fs : List NamedFile). IsTrue (are_short fs)) (sym is) (files_short number)

@@ -1,5 +1,5 @@
 -- What a step adds to a log.
-use Rattle.std.proofs.Common.{◌≡◌, ℕ, suc, ◌+◌, ◌/◌, ◌<◌, ◌≤◌, ◌^◌, List, [], ◌∷◌, ◌++◌, length, map, get_or, refl, ap, sym, subst, ◌∙◌, arith, add-one, zero-add, append_assoc}
+use Rattle.std.proofs.Common.{◌≡◌, ℕ, ◌+◌, ◌<◌, ◌^◌, List, ◌++◌, length, map, get_or, ap, sym, subst, ◌∙◌, arith, add-one, zero-add, append_assoc}
 use Rattle.std.specs.Prelude.{IsTrue}
 use Rattle.std.specs.List.{list_all, range_with_len}
 use Rattle.std.specs.Cmp.Lexicographic.{pointwise}

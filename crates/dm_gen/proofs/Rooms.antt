@@ -3,7 +3,6 @@ use Rattle.std.proofs.Common.{◌≡◌, ℕ, ◌+◌, ◌%◌, ◌<◌, ◌≤�
 use Rattle.std.specs.Prelude.{codes, pos}
 use Rattle.std.specs.List.{concat}
 use Rattle.dm_value.specs.declared.value.Value.TheVariants as value
-use Rattle.dm_schema.specs.declared.column.Column.{Column}
 use Rattle.dm_schema.specs.declared.column.DefaultRule.TheVariants as default
 use Rattle.dm_schema.specs.declared.row_change.RowChange.{RowChange}
 use Rattle.dm_schema.specs.declared.row_change.RowChange.TheVariants as change
@@ -100,7 +99,7 @@ step_room source j w = rows_room (source + 1) (done_before j) (step j w).change 
 statement_length : (done : ℕ) (table : List ℕ) → length (statement done table) ≤ 100 + length table
 statement_length done table = by (eqb done 0) (eqb done 1) where
   by : (first second : Bool)
-       → length (cond first (codes "ALTER TABLE `" ++ table ++ codes "` ADD COLUMN `d` INT NOT NULL DEFAULT 5") (cond second (codes "ALTER TABLE `" ++ table ++ codes "` MODIFY COLUMN `v` BIGINT NOT NULL") (codes "CREATE UNIQUE INDEX `w` ON `" ++ table ++ codes "` (`u`,`v`)"))) ≤ 100 + length table
+      → length (cond first (codes "ALTER TABLE `" ++ table ++ codes "` ADD COLUMN `d` INT NOT NULL DEFAULT 5") (cond second (codes "ALTER TABLE `" ++ table ++ codes "` MODIFY COLUMN `v` BIGINT NOT NULL") (codes "CREATE UNIQUE INDEX `w` ON `" ++ table ++ codes "` (`u`,`v`)"))) ≤ 100 + length table
   by true second = simp length-append (omega arith)
   by false true = simp length-append (omega arith)
   by false false = simp length-append (omega arith)

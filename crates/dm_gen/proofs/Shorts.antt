@@ -1,11 +1,11 @@
 -- Each file has fewer than 2^32 bytes.
-use Rattle.std.proofs.Common.{◌≡◌, ℕ, zero, suc, ◌+◌, ◌*◌, ◌<◌, ◌≤◌, ◌^◌, Bool, true, false, cond, eqb, List, [], ◌∷◌, ◌++◌, length, map, refl, arith, length-append, lit<}
+use Rattle.std.proofs.Common.{◌≡◌, ℕ, zero, suc, ◌+◌, ◌*◌, ◌<◌, ◌≤◌, ◌^◌, Bool, true, false, cond, eqb, List, [], ◌∷◌, length, map, refl, arith, length-append, lit<}
 use Rattle.std.specs.Prelude.{◌&&◌, nat_lt}
 use Rattle.std.specs.List.{flat_map, range_with_len}
 use Rattle.std.specs.Fmt.{decimal}
 use Rattle.std.proofs.lemmas.Bool.{lt-ltb}
 use Rattle.std.proofs.lemmas.Fmt.{length-decimal-le}
-use Rattle.dm_text.specs.Names.{behind_comma, doubled, quoted, with_commas}
+use Rattle.dm_text.specs.Names.{behind_comma, doubled, with_commas}
 use Rattle.dm_text.specs.Values.{tuple_text}
 use Rattle.dm_encode.specs.Events.{format_body, map_event, rows_event}
 use Rattle.dm_encode.proofs.Bodies.{length-event}

@@ -1,10 +1,10 @@
 -- Where a source's steps stand: which ids come next, and how many rows live.
-use Rattle.std.proofs.Common.{◌≡◌, ℕ, zero, suc, ◌+◌, ◌-◌, ◌*◌, ◌/◌, ◌%◌, ◌<◌, ◌≤◌, Bool, true, false, cond, ltb, eqb, List, [], ◌∷◌, ◌++◌, length, min, refl, ap, sym, subst, ◌∙◌, arith, length-append, add-one}
+use Rattle.std.proofs.Common.{◌≡◌, ℕ, zero, suc, ◌+◌, ◌/◌, ◌%◌, ◌<◌, ◌≤◌, Bool, true, false, cond, ltb, eqb, length, min, refl, subst, arith, length-append, add-one}
 use Rattle.std.proofs.lemmas.Bool.{ltb-true, ltb-false, eqb-true, eqb-false}
 use Rattle.std.proofs.lemmas.List.{length-set}
 use Rattle.std.proofs.lemmas.List.FromFn.{length-map-range_with_len}
 use Rattle.std.proofs.lemmas.List.Edits.{length-remove}
-use Rattle.dm_gen.specs.Steps.{Walk, advanced, chosen, deleted, done_before, dumped_row, dumped_rows, first_walk, inserted, new_row, place, step, updated, walk_at, with_v}
+use Rattle.dm_gen.specs.Steps.{Walk, advanced, chosen, deleted, done_before, dumped_row, dumped_rows, first_walk, inserted, place, step, updated, walk_at, with_v}
 
 -- after so many steps
 pub record IsWalk (j : ℕ) (w : Walk) : Type 0 where

@@ -1,5 +1,5 @@
 -- The binlog of a source: the format event, and then each step's change, and the statements between them.
-use Rattle.std.specs.Prelude.{ℕ, zero, suc, ◌+◌, ◌/◌, ◌%◌, ◌==◌, nat_lt, Bool, ◌&&◌, List, [], ◌∷◌, ◌++◌, if◌then◌else◌}
+use Rattle.std.specs.Prelude.{ℕ, zero, suc, ◌+◌, ◌%◌, ◌==◌, nat_lt, Bool, ◌&&◌, List, [], ◌++◌, if◌then◌else◌}
 use Rattle.dm_schema.specs.declared.row_change.RowChange.{RowChange}
 use Rattle.dm_binlog.specs.Framing.{magic}
 use Rattle.dm_encode.specs.Events.{format_event, map_event, query_event, rows_event}

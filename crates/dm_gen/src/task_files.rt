@@ -1,4 +1,5 @@
-ghost use Rattle.std.specs.Prelude.{◌≡◌, ◌<◌, [], ◌∷◌, ◌++◌, IfOk, OnOk};
+ghost use Rattle.std.specs.Prelude.{◌≡◌, ◌<◌, [], ◌∷◌, ◌++◌, IsTrue, IfOk, OnOk};
+ghost use Rattle.dm_files.specs.Files.{are_files, are_short};
 ghost use Rattle.dm_gen.specs.Generated.{files, generated, source_files};
 
 use crate::binlog::binlog;
@@ -64,7 +65,9 @@ fn files(alloc: Global, number: u32) -> Result<Files, AllocError>
 
 /// The task and the files of a number. The task is the same for each.
 pub fn generate(alloc: Global, number: u32) -> Result<Generated, AllocError>
-    ensures { IfOk result (λ made. made ≡ generated number) }
+    ensures value { IfOk result (λ made. made ≡ generated number) }
+    ensures named { IfOk result (λ made. IsTrue (are_files made.task made.files)) }
+    ensures short { IfOk result (λ made. IsTrue (are_short made.files)) }
 {
     Ok(Generated {
         task: task(alloc)?,

@@ -1,4 +1,3 @@
-use Rattle.std.proofs.Common.{arith}
 use Rattle.dm_gen.proofs.Logging.{live_some, log_begins, log_goes, next_small}
 use Rattle.dm_gen.proofs.binlog.binlog.Goals as goal
 
