@@ -12,6 +12,8 @@ mod logs;
 mod shard;
 mod source;
 mod tables;
+#[cfg(test)]
+mod tests;
 
 pub use building::build;
 pub use changing::{change_at, is_row};
