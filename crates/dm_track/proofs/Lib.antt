@@ -1,0 +1,10 @@
+pub mod Numbers
+pub mod Firsts
+pub mod Finishing
+pub mod ReadLaws
+pub mod Dumps
+pub mod LogLemmas
+pub mod Readings
+pub mod TableLemmas
+pub mod Parts
+pub mod BuildLaws

@@ -1,8 +1,8 @@
 -- The histories of a task's shards, over its files.
-use Rattle.std.specs.Prelude.{ℕ, ◌+◌, nat_lt, List, [], ◌∷◌, ◌++◌, length, slice_get, sum, map, Option, Some, None, Result, Ok, Err, if◌then◌else◌}
+use Rattle.std.specs.Prelude.{ℕ, ◌+◌, Bool, true, false, ◌&&◌, ◌^◌, nat_lt, position, option_and_then, List, [], ◌∷◌, ◌++◌, length, slice_get, sum, map, Option, Some, None, Result, Ok, Err, if◌then◌else◌}
 use Rattle.std.specs.Option.{option_map, option_map_or}
 use Rattle.std.specs.List.{range_with_len}
-use Rattle.dm_schema.specs.Names.{Text}
+use Rattle.dm_schema.specs.Names.{Text, same_name}
 use Rattle.dm_schema.specs.declared.table_name.TableName.{TableName}
 use Rattle.dm_route.specs.declared.rules.Rules.{Rules}
 use Rattle.dm_task.specs.declared.task.Task.{Task}
@@ -71,6 +71,12 @@ source_log heads files number source = log_of heads source.start (map (log_file 
 abbrev pub dump_fault : SnapshotFault → BuildFault
 dump_fault (snapshot_fault.Dump file at cause) = fault.Dump file at cause
 dump_fault snapshot_fault.Memory = fault.Memory
+
+abbrev pub is_memory : BuildFault → Bool
+is_memory fault.Memory = true
+is_memory fault.Items = false
+is_memory fault.Values = false
+is_memory (fault.Dump file at cause) = false
 
 abbrev pub history_by : Readings → List Text → Rules → Log → Shard → Result Snapshot SnapshotFault → Result History BuildFault
 history_by r names rules log shard (Err f) = Err (dump_fault f)
@@ -148,6 +154,17 @@ pub record Inputs : Type 0 where
   pub files : List NamedFile
   pub histories : List History
   pub tables : List TableName
+
+abbrev pub is_table : TableName → TableName → Bool
+is_table target table = same_name table.db target.db && same_name table.table target.table
+
+-- numbers of tables have 32 bits
+abbrev pub as_number : Option ℕ → Option ℕ
+as_number place = option_and_then (λ n. if nat_lt n (2 ^ 32) then Some n else None) place
+
+-- the number of a shard's target among the tables
+abbrev pub table_of : Inputs → ℕ → Option ℕ
+table_of inputs shard = option_and_then (λ h. as_number (position (is_table h.target) inputs.tables)) (slice_get inputs.histories shard)
 
 abbrev pub inputs_with : Task → List NamedFile → Result (List History) BuildFault → Result Inputs BuildFault
 inputs_with task files (Err f) = Err f

@@ -1,5 +1,5 @@
 -- The change of a row that an item stands for.
-use Rattle.std.specs.Prelude.{ℕ, zero, suc, Bool, true, ◌==◌, List, [], length, Option, Some, None, is_some}
+use Rattle.std.specs.Prelude.{ℕ, zero, suc, Bool, true, false, ◌==◌, ◌&&◌, List, [], length, slice_get, Option, Some, None, is_some}
 use Rattle.std.specs.Option.{option_map, option_map_or}
 use Rattle.std.specs.List.{find, list_all, range_with_len}
 use Rattle.dm_schema.specs.Layout.{Layout}
@@ -8,7 +8,7 @@ use Rattle.dm_schema.specs.declared.row_change.RowChange.TheVariants as change
 use Rattle.dm_dump.specs.declared.inserts.InsertOrder.{InsertOrder}
 use Rattle.dm_dump.specs.Orders as dump
 use Rattle.dm_files.specs.declared.files.NamedFile.{NamedFile}
-use Rattle.dm_files.specs.Files.{bytes_of}
+use Rattle.dm_files.specs.Files.{are_short, bytes_of}
 use Rattle.dm_walk.specs.declared.item.Place.{Place}
 use Rattle.dm_walk.specs.declared.item.PlaceKind.{PlaceKind}
 use Rattle.dm_walk.specs.declared.item.PlaceKind.TheVariants as place
@@ -44,6 +44,15 @@ change_of files h (suc position) = by (item_of h (suc position)) where
   by (Some (item.Ddl at)) = None
   by (Some (item.Row at)) = change_at files h.orders at (schema_at h position)
 
+abbrev pub is_row_item : Option Item → Bool
+is_row_item None = false
+is_row_item (Some (item.Ddl at)) = false
+is_row_item (Some (item.Row at)) = true
+
+-- there is such a shard, and its item of this number is a row
+abbrev pub is_row : List History → ℕ → ℕ → Bool
+is_row histories shard number = option_map_or (λ h. is_row_item (item_of h number)) (slice_get histories shard) false
+
 -- an item is no row, or a row that can be read
 abbrev pub reads : List NamedFile → History → ℕ → Bool
 reads files h number = by (item_of h number) where
@@ -55,3 +64,7 @@ reads files h number = by (item_of h number) where
 -- each row item of each history can be read
 abbrev pub all_read : List NamedFile → List History → Bool
 all_read files histories = list_all (λ h. list_all (reads files h) (range_with_len 1 (length h.items))) histories
+
+-- places in files have 32 bits, and each row item of each history can be read
+abbrev pub are_kept : List NamedFile → List History → Bool
+are_kept files histories = are_short files && all_read files histories

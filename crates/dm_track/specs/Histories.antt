@@ -27,6 +27,12 @@ is_ddl (item.Ddl place) = true
 abbrev pub ddls_before : ℕ → List Item → ℕ
 ddls_before position items = length (filter is_ddl (take position items))
 
+-- the numbers of the statements among items, of which the first has this number
+abbrev pub ddl_numbers : ℕ → List Item → List ℕ
+ddl_numbers number [] = []
+ddl_numbers number (item.Row place ∷ items) = ddl_numbers (number + 1) items
+ddl_numbers number (item.Ddl place ∷ items) = number ∷ ddl_numbers (number + 1) items
+
 -- the schema at a position: behind as many statements as are done
 abbrev pub schema_at : History → ℕ → Layout
 schema_at h position = unwrap_or (slice_get (h.first ∷ h.later) (ddls_before position h.items)) h.first

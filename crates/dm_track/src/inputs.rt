@@ -1,0 +1,126 @@
+ghost use Rattle.std.specs.Prelude.{◌≡◌, ◌^◌, nat_lt, position, Some, None, IsTrue, if◌then◌else◌};
+ghost use Rattle.dm_schema.specs.Names.{same_name};
+ghost use Rattle.dm_track.specs.Builds.{Inputs, as_number, is_table, table_of};
+ghost use Rattle.dm_track.specs.Changes.{are_kept};
+
+use crate::history::History;
+use dm_files::Files;
+use dm_list::Sequence;
+use dm_schema::TableName;
+use dm_task::Task;
+use std::marker::Model;
+
+/// Numbers of tables have 32 bits.
+const MOST_NUMBERS: usize = 0x1_0000_0000;
+
+/// What a run is given: the task, its files, the history of each shard, and the tables that they go to.
+#[derive(Debug, Drop)]
+pub struct Inputs {
+    task: Task,
+    files: Files,
+    histories: Sequence<History>,
+    tables: Sequence<TableName>,
+}
+
+impl Model for Inputs {
+    ghost use Rattle.std.specs.Prelude.{IsTrue};
+    ghost use Rattle.dm_track.specs.Builds as spec;
+    ghost use Rattle.dm_track.specs.Changes.{are_kept};
+
+    ghost Value = { spec.Inputs };
+
+    ghost view = { λ i. record { task = i.task; files = i.files; histories = i.histories; tables = i.tables } };
+
+    ghost invariant = { λ i. IsTrue (are_kept i.files i.histories) };
+
+    ghost inverse = { λ i. record { task = i.task; files = i.files; histories = i.histories; tables = i.tables } };
+}
+
+fn is_table(target: &TableName, table: &TableName) -> bool
+    ensures { result ≡ is_table target.now table.now }
+{
+    table.db == target.db && table.table == target.table
+}
+
+fn place_of(target: &TableName, tables: &[TableName]) -> Option<usize>
+    ensures { result ≡ position (is_table target.now) tables.now }
+{
+    tables.iter().position(|table| is_table(target, table))
+}
+
+fn narrow(place: usize) -> Option<u32>
+    ensures { result ≡ (if nat_lt place (2 ^ 32) then Some place else None) }
+{
+    if place < MOST_NUMBERS {
+        Some(place as u32)
+    } else {
+        None
+    }
+}
+
+fn as_number(place: Option<usize>) -> Option<u32>
+    ensures { result ≡ as_number place }
+{
+    match place {
+        Some(place) => narrow(place),
+        None => None,
+    }
+}
+
+/// What a run is given, of histories whose rows can be read.
+pub fn inputs_of(
+    task: Task,
+    files: Files,
+    histories: Sequence<History>,
+    tables: Sequence<TableName>,
+) -> Inputs
+    requires { IsTrue (are_kept files histories) }
+    ensures { result ≡ record { task = task; files = files; histories = histories; tables = tables } }
+{
+    Inputs {
+        task,
+        files,
+        histories,
+        tables,
+    }
+}
+
+impl Inputs {
+    pub fn task(&self) -> &Task
+        ensures { result.now ≡ self.now.task }
+    {
+        &self.task
+    }
+
+    /// The task's files; a place in a history names one by its number.
+    pub fn files(&self) -> &Files
+        ensures { result.now ≡ self.now.files }
+    {
+        &self.files
+    }
+
+    /// The histories of the shards, by their numbers. Each row in them can be read.
+    pub fn histories(&self) -> &Sequence<History>
+        ensures histories { result.now ≡ self.now.histories }
+        ensures kept { IsTrue (are_kept self.now.files self.now.histories) }
+    {
+        &self.histories
+    }
+
+    /// The tables that the shards go to, in byte order.
+    pub fn tables(&self) -> &Sequence<TableName>
+        ensures { result.now ≡ self.now.tables }
+    {
+        &self.tables
+    }
+
+    /// The number of a shard's target among the tables; none where there is no such shard.
+    pub fn table_of(&self, shard: u32) -> Option<u32>
+        ensures { result ≡ table_of self.now shard }
+    {
+        match self.histories.get(u64::from(shard)) {
+            Some(history) => as_number(place_of(history.target(), self.tables.as_slice())),
+            None => None,
+        }
+    }
+}
