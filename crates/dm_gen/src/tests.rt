@@ -2,10 +2,13 @@
 
 use crate::numbers::next_number;
 use crate::{Generated, generate};
-use dm_files::{NamedFile, are_files};
+use dm_files::{NamedFile, are_files, are_short};
+use dm_track::{History, Inputs, Item, build};
 use std::alloc::Global;
 use std::fmt::Write;
+use std::marker::Sync;
 use std::test::Fail;
+use std::thread::Threads;
 
 /// x = 1, x = 29, and an x whose highest bit is shifted out.
 #[test]
@@ -105,5 +108,62 @@ fn makes_what_goes_together(rt: HostRuntime) -> Result<(), Fail> {
     assert!(rt; is_dump(&made));
     let fits = are_files(&made.task, made.files.as_slice());
     assert!(rt; fits);
+    Ok(())
+}
+
+fn write_statements(text: &mut String, history: &History) -> Result<(), Fail> {
+    for before in 0..history.len() {
+        if let Some(Item::Ddl(_)) = history.item(before + 1) {
+            write!(text, " {}", before + 1)?;
+        }
+    }
+    Ok(())
+}
+
+/// How many items a history has, which of them are statements, and whether it ends before its files do.
+fn write_history(text: &mut String, history: &History) -> Result<(), Fail> {
+    write!(text, "{}", history.len())?;
+    write_statements(text, history)?;
+    text.push_str(if history.bad().is_some() {
+        " bad\n"
+    } else {
+        "\n"
+    })?;
+    Ok(())
+}
+
+fn written_histories(alloc: Global, inputs: &Inputs) -> Result<String, Fail> {
+    let mut text = String::new(alloc);
+    for history in inputs.histories().as_slice() {
+        write_history(&mut text, history)?;
+    }
+    Ok(text)
+}
+
+fn built<R: Threads + Sync>(rt: &R, alloc: Global, made: Generated) -> Result<Inputs, Fail> {
+    let Generated { task, files } = made;
+    if !are_files(&task, files.as_slice()) || !are_short(files.as_slice()) {
+        return Err("no files of the task".into());
+    }
+    if files.len() > u64::from(u32::MAX) {
+        return Err("too many files".into());
+    }
+    match build(rt, alloc, task, files) {
+        Ok(inputs) => Ok(inputs),
+        Err(_) => Err("no histories".into()),
+    }
+}
+
+/// A dump of 1,000 rows, 4,000 changes, and a statement behind each of the first three thousands.
+#[test]
+fn makes_histories(rt: HostRuntime) -> Result<(), Fail> {
+    let made = generate(rt.alloc(), 7)?;
+    let inputs = built(&rt, rt.alloc(), made)?;
+    let text = written_histories(rt.alloc(), &inputs)?;
+    let each = "5003 2001 3002 4003\n";
+    assert_eq!(rt;
+        text.as_str(),
+        format!(in rt.alloc(); "{each}{each}{each}{each}")?.as_str()
+    );
     Ok(())
 }
