@@ -1,9 +1,8 @@
-ghost use Rattle.std.specs.Prelude.{◌≡◌, ◌<◌, ◌≤◌, ◌++◌, length, drop, map, IsTrue, IfOk};
+ghost use Rattle.std.specs.Prelude.{◌≡◌, ◌<◌, ◌≤◌, length, drop, IsTrue, IfOk};
 ghost use Rattle.std.specs.List.{list_all};
 ghost use Rattle.std.specs.Cmp.Lexicographic.{pointwise};
 ghost use Rattle.dm_schema.specs.Fits.{fits};
-ghost use Rattle.dm_gen.specs.Schemas.{columns_after, schema_after};
-ghost use Rattle.dm_gen.specs.Steps.{row_of};
+ghost use Rattle.dm_gen.specs.Schemas.{columns_after};
 ghost use Rattle.dm_gen.specs.Dumps.{create_file, dumped, rows_file};
 
 use crate::live_row::row_of;

@@ -1,4 +1,4 @@
-ghost use Rattle.std.specs.Prelude.{◌≡◌, ◌<◌, ◌++◌, IfOk};
+ghost use Rattle.std.specs.Prelude.{◌≡◌, ◌<◌, IfOk};
 ghost use Rattle.dm_gen.specs.Naming.{binlog_name, create_name, database, file_name, numbered, own_name, rows_name, source_name, table_of, target_name};
 
 use dm_list::Bytes;

@@ -1,10 +1,10 @@
-ghost use Rattle.std.specs.Prelude.{◌≡◌, ◌<◌, ◌≤◌, ◌+◌, ◌/◌, ◌^◌, length, IsTrue, IfOk, OnOk};
+ghost use Rattle.std.specs.Prelude.{◌≡◌, ◌<◌, ◌^◌, length, IsTrue, IfOk, OnOk};
 ghost use Rattle.std.specs.List.{list_all};
 ghost use Rattle.std.specs.Cmp.Lexicographic.{pointwise};
 ghost use Rattle.dm_schema.specs.Fits.{fits};
 ghost use Rattle.dm_encode.specs.Events.{rows_of};
 ghost use Rattle.dm_gen.specs.Schemas.{columns_after};
-ghost use Rattle.dm_gen.specs.Steps.{advanced, chosen, deleted, done_before, dumped_row, dumped_rows, first_walk, inserted, new_row, place, step, updated};
+ghost use Rattle.dm_gen.specs.Steps.{advanced, deleted, done_before, dumped_row, dumped_rows, first_walk, inserted, new_row, place, step, updated};
 
 use crate::live_row::{LiveRow, row_of};
 use crate::numbers::next_number;
