@@ -18,6 +18,7 @@ pub struct Checkpoint {
     pub window: u32,
 }
 
+/// The text of a checkpoint. One whose window isn't 1 to 100,000 is written too, but can't be read again.
 pub fn write_checkpoint(alloc: Global, value: Checkpoint) -> Result<Bytes, AllocError>
     ensures text { IfOk result (λ text. text ≡ checkpoint_text value) }
     ensures read_back { IfOk result (λ text.

@@ -26,6 +26,7 @@ pub struct LockRecord {
     pub order: Sequence<Entry>,
 }
 
+/// The text of a lock record, whose shards' names are UTF-8.
 pub fn write_lock(alloc: Global, value: &LockRecord) -> Result<Bytes, AllocError>
     requires { All (λ entry. IsUtf8 entry.shard) value.now.order }
     ensures text { IfOk result (λ text. text ≡ lock_text value.now) }
