@@ -1,3 +1,4 @@
 pub mod Contents
 pub mod Operations
 pub mod Alterations
+pub mod Coding

@@ -2,6 +2,7 @@
 #![tactic(auto)]
 
 mod fault;
+mod keyed;
 mod op;
 
 pub use fault::TableFault;
