@@ -71,3 +71,13 @@ impl KeyedRows {
         self.rows.remove(key);
     }
 }
+
+impl Copied for KeyedRows {
+    fn copy(&self, alloc: Global) -> Result<KeyedRows, AllocError> {
+        let mut copy = KeyedRows::new(alloc);
+        for (key, row) in self.in_order() {
+            copy.insert(key.copy(alloc)?, row.copy(alloc)?)?;
+        }
+        Ok(copy)
+    }
+}
