@@ -1,8 +1,12 @@
-ghost use Rattle.std.specs.Prelude.{◌≡◌, IfOk, OnOk};
+ghost use Rattle.std.specs.Prelude.{◌≡◌, ◌||◌, not, OnOk};
+ghost use Rattle.std.specs.List.{filter};
 ghost use Rattle.std.specs.Option.{option_copied};
 ghost use Rattle.std.specs.FinMap as fin;
+ghost use Rattle.dm_table.specs.Contents.{same_row, share_unique};
 
+use crate::sharing::share_unique;
 use dm_list::Copied;
+use dm_schema::Schema;
 use dm_value::Row;
 use std::alloc::{AllocError, Global};
 use std::collections::BTreeMap;
@@ -69,6 +73,14 @@ impl KeyedRows {
         ensures { self.new ≡ fin.remove self.old key.now }
     {
         self.rows.remove(key);
+    }
+
+    /// Removes the row of a key, and those that agree with a row in a unique key.
+    pub fn remove_sharing(&mut self, schema: &Schema, key: &Row, row: &Row)
+        ensures { self.new ≡ fin.from_entries (filter (λ e. not (same_row key.now e.0 || share_unique schema.now row.now e.1)) (fin.entries self.old)) }
+    {
+        self.rows.retain(|other, value| !(key.cmp(other).is_eq()
+            || share_unique(schema, row, value)));
     }
 }
 

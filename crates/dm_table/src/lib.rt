@@ -2,10 +2,14 @@
 #![tactic(auto)]
 
 mod cells;
+mod effect;
 mod fault;
+mod judge;
 mod keyed;
 mod left;
 mod op;
+mod said;
+mod sharing;
 mod table;
 
 pub use fault::TableFault;
