@@ -1,2 +1,4 @@
 pub mod Entries
 pub mod Agreeing
+pub mod Refusing
+pub mod Formed

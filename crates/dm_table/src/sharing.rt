@@ -1,13 +1,15 @@
-ghost use Rattle.std.specs.Prelude.{◌≡◌, ◌&&◌, not, unwrap_or};
+ghost use Rattle.std.specs.Prelude.{◌≡◌, ◌≤◌, ◌&&◌, not, length, unwrap_or};
 ghost use Rattle.std.specs.Option.{option_copied};
 ghost use Rattle.std.specs.List.{list_any};
 ghost use Rattle.std.specs.Ordering.{eq_by_cmp};
 ghost use Rattle.dm_value.specs.declared.value.Value.TheVariants as value;
 ghost use Rattle.dm_value.specs.Order.{value_cmp};
 ghost use Rattle.dm_schema.specs.Kinds.{is_null};
+ghost use Rattle.dm_schema.specs.Keys.{key_number};
 ghost use Rattle.dm_schema.specs.Rows.{values_at};
 ghost use Rattle.dm_table.specs.Contents.{same_row, agree_in, share_unique};
 
+use crate::TableFault;
 use crate::cells::cell;
 use dm_schema::{Column, Schema, UniqueKey};
 use dm_value::{Name, Row, Value};
@@ -55,4 +57,25 @@ fn are_same(one: Option<&Value>, other: Option<&Value>) -> bool
         return false;
     };
     !matches!(one, Value::Null) && one.cmp(other).is_eq()
+}
+
+/// Two rows agree in a unique key.
+pub fn duplicate(schema: &Schema, key: &UniqueKey) -> TableFault
+    ensures { result ≡ TableFault.Duplicate (key_number schema.now.uniques key.now) }
+{
+    TableFault::Duplicate {
+        key: key_number(schema.uniques(), key),
+    }
+}
+
+/// The place of a unique key among the others in byte order of names, from 1.
+fn key_number(uniques: &[UniqueKey], key: &UniqueKey) -> u8
+    requires { length uniques.now ≤ 16 }
+    ensures { result ≡ key_number uniques.now key.now }
+{
+    let before = uniques
+        .iter()
+        .filter(|other| other.name.cmp(&key.name).is_lt())
+        .count();
+    1 + before as u8
 }
