@@ -1,5 +1,5 @@
 -- Rows under their keys, as a sorted list of entries and as a map.
-use Rattle.std.proofs.Common.{◌≡◌, Bool, true, false, cond, ◌&&◌, List, [], ◌∷◌, Option, Some, None, refl, sym, ap, subst, ◌∙◌}
+use Rattle.std.proofs.Common.{◌≡◌, Bool, true, false, cond, ◌&&◌, List, [], ◌∷◌, map, Option, Some, None, refl, sym, ap, subst, ◌∙◌}
 use Rattle.std.specs.Prelude.{T, ⊤}
 use Rattle.std.specs.declared.cmp.Ordering.{Ordering}
 use Rattle.std.specs.declared.cmp.Ordering.TheVariants.{Less, Equal, Greater}
@@ -128,3 +128,18 @@ puts_one made now total k v key row before es is same_key same_row put h = recor
 } where
   ordered : T (is_sorted row_cmp ((k, v) ∷ es))
   ordered = subst (λ (xs : List (Row × Row)). T (is_sorted row_cmp xs)) is h.ordered
+
+-- the same with other rows under the keys
+below-map : (f : Row → Row) (k : Row) (es : List (Row × Row)) → below_all row_cmp k (map (λ e. (e.0, f e.1)) es) ≡ below_all row_cmp k es
+below-map f k [] = refl
+below-map f k (e ∷ es) = ap (λ b. is_lt (row_cmp k e.0) && b) (below-map f k es)
+
+sorted-map : (f : Row → Row) (es : List (Row × Row)) → is_sorted row_cmp (map (λ e. (e.0, f e.1)) es) ≡ is_sorted row_cmp es
+sorted-map f [] = refl
+sorted-map f (e ∷ es) = ap (λ b. b && is_sorted row_cmp (map (λ e. (e.0, f e.1)) es)) (below-map f e.0 es) ∙ ap (λ b. below_all row_cmp e.0 es && b) (sorted-map f es)
+
+pub puts_begin_mapped : (f : Row → Row) (made : RowMap) (es : List (Row × Row)) (m : RowMap) → made ≡ fin.empty → es ≡ fin.entries m → Puts made (map (λ e. (e.0, f e.1)) es) (fin.from_entries (map (λ e. (e.0, f e.1)) (fin.entries m)))
+puts_begin_mapped f made es m none all = record {
+  whole = ap (λ (x : RowMap). over x (map (λ e. (e.0, f e.1)) es)) none ∙ over_nothing (map (λ e. (e.0, f e.1)) es) ∙ ap (λ (xs : List (Row × Row)). fin.from_entries (map (λ (e : Row × Row). (e.0, f e.1)) xs)) all;
+  ordered = subst T (sym (sorted-map f es)) (subst (λ (xs : List (Row × Row)). T (is_sorted row_cmp xs)) (sym all) (entries_sorted m));
+}

@@ -1,11 +1,12 @@
-ghost use Rattle.std.specs.Prelude.{◌≡◌, IfOk, unwrap_or};
+ghost use Rattle.std.specs.Prelude.{◌≡◌, IsTrue, IfOk, unwrap_or};
 ghost use Rattle.std.specs.Option.{option_copied};
 ghost use Rattle.dm_value.specs.declared.value.Value.TheVariants as value;
+ghost use Rattle.dm_schema.specs.Kinds.{is_kind};
 ghost use Rattle.dm_schema.specs.Rows.{cell};
-ghost use Rattle.dm_table.specs.Operations.{named_value};
+ghost use Rattle.dm_table.specs.Operations.{named_value, is_unfit_value};
 
 use dm_list::Copied;
-use dm_schema::Column;
+use dm_schema::{Column, fits};
 use dm_value::{Name, Value};
 use std::alloc::{AllocError, Global};
 
@@ -50,5 +51,16 @@ pub fn value_or_null(alloc: Global, found: Option<&Value>) -> Result<Value, Allo
     match found {
         Some(value) => value.copy(alloc),
         None => Ok(Value::Null),
+    }
+}
+
+/// Whether there is a value that doesn't fit the column.
+pub fn is_unfit_value(given: Option<&Value>, column: &Column) -> bool
+    requires { IsTrue (is_kind column.now.kind) }
+    ensures { result ≡ is_unfit_value (option_copied given.entry) column.now }
+{
+    match given {
+        Some(value) => !fits(value, column),
+        None => false,
     }
 }

@@ -4,10 +4,10 @@ ghost use Rattle.std.specs.List.{list_all};
 ghost use Rattle.dm_list.specs.Answer.{first_refusal, unless_refused, Answers};
 ghost use Rattle.dm_schema.specs.Kinds.{is_column, is_kind};
 ghost use Rattle.dm_schema.specs.NameOrder.{columns_in_order, uniques_in_order};
-ghost use Rattle.dm_table.specs.Operations.{refusals, names_in_order, columns_of, is_unfit, is_unfit_value, lacks_value, key_value, is_other, old_row, is_unique_taken};
+ghost use Rattle.dm_table.specs.Operations.{refusals, names_in_order, columns_of, is_unfit, lacks_value, key_value, is_other, old_row, is_unique_taken};
 ghost use Rattle.dm_table.specs.Judging.{is_memory, unknown_refusals, unfit_refusals, missing_refusals, primary_refusals, unique_refusals};
 
-use crate::cells::named_value;
+use crate::cells::{is_unfit_value, named_value};
 use crate::keyed::KeyedRows;
 use crate::left::{given, left_row};
 use crate::said::{SaidName, said_in_order};
@@ -15,7 +15,7 @@ use crate::sharing::{agree_in, duplicate};
 use crate::{RowOp, TableFault};
 use dm_list::Copied;
 use dm_schema::{
-    Column, Schema, UniqueKey, fits, has_column, has_fill_for_missing, in_name_order, key_of,
+    Column, Schema, UniqueKey, has_column, has_fill_for_missing, in_name_order, key_of,
 };
 use dm_value::{Name, Row, Value};
 use std::alloc::Global;
@@ -97,17 +97,6 @@ fn is_unfit(schema: &Schema, op: &RowOp, column: &Column) -> bool
     is_unfit_value(given(op, column), column)
         || lacks_value(op, column)
         || is_unfit_value(key_value(schema, op, column), column)
-}
-
-/// Whether a value that is given doesn't fit the column.
-fn is_unfit_value(given: Option<&Value>, column: &Column) -> bool
-    requires { IsTrue (is_kind column.now.kind) }
-    ensures { result ≡ is_unfit_value (option_copied given.entry) column.now }
-{
-    match given {
-        Some(value) => !fits(value, column),
-        None => false,
-    }
 }
 
 /// Whether a new row doesn't name a column that has no constant fill.

@@ -1,6 +1,8 @@
 //! A table in memory: its rows under their primary keys, and what operations and alterations leave of them.
 #![tactic(auto)]
 
+mod altering;
+mod applying;
 mod cells;
 mod effect;
 mod fault;

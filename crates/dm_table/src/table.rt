@@ -1,9 +1,15 @@
-ghost use Rattle.std.specs.Prelude.{◌≡◌, IfOk, take, drop};
+ghost use Rattle.std.specs.Prelude.{◌≡◌, ⊤, Ok, Err, MatchBool, IfOk, IfErr, take, drop};
 ghost use Rattle.std.specs.Option.{option_copied};
 ghost use Rattle.std.specs.FinMap as fin;
 ghost use Rattle.dm_table.specs.Contents.{new_table};
+ghost use Rattle.dm_table.specs.Operations.{table_applied};
+ghost use Rattle.dm_table.specs.Alterations.{altered};
+ghost use Rattle.dm_table.specs.Judging.{is_memory};
 
+use crate::altering::altered_rows;
+use crate::applying::all_applied;
 use crate::keyed::KeyedRows;
+use crate::{RowOp, TableFault};
 use dm_list::Copied;
 use dm_schema::Schema;
 use dm_value::{Row, Rows};
@@ -82,6 +88,33 @@ impl Table {
             rows.push(row.copy(alloc)?)?;
         }
         Ok(Rows::new(rows))
+    }
+
+    /// Changes the rows by operations in turn: by all of them, or, where one is refused or memory is wanting, by none.
+    /// Since all rows are copied first, a call costs the table's size; each operation that leaves a row goes over all
+    /// rows once more for each unique key.
+    pub fn apply(&mut self, alloc: Global, ops: &[RowOp]) -> Result<(), TableFault>
+        ensures applied { IfOk result (λ _. table_applied self.old ops.now ≡ Ok self.new) }
+        ensures refused { IfErr result (λ f. MatchBool (is_memory f) ⊤ (table_applied self.old ops.now ≡ Err f)) }
+        ensures kept { IfErr result (λ _. self.new ≡ self.old) }
+    {
+        let rows = all_applied(alloc, &self.schema, &self.rows, ops)?;
+        self.rows = rows;
+        Ok(())
+    }
+
+    /// Gives the table another schema, whose columns may stand in any order; or leaves it as it is, where that is
+    /// refused or memory is wanting.
+    pub fn alter(&mut self, alloc: Global, schema: &Schema) -> Result<(), TableFault>
+        ensures altered { IfOk result (λ _. altered self.old schema.now ≡ Ok self.new) }
+        ensures refused { IfErr result (λ f. MatchBool (is_memory f) ⊤ (altered self.old schema.now ≡ Err f)) }
+        ensures kept { IfErr result (λ _. self.new ≡ self.old) }
+    {
+        let rows = altered_rows(alloc, &self.schema, &self.rows, schema)?;
+        let schema = schema.copy(alloc)?;
+        self.schema = schema;
+        self.rows = rows;
+        Ok(())
     }
 }
 
