@@ -13,6 +13,8 @@ mod op;
 mod said;
 mod sharing;
 mod table;
+#[cfg(test)]
+mod tests;
 
 pub use fault::TableFault;
 pub use op::RowOp;
