@@ -15,16 +15,16 @@ use Rattle.dm_table.specs.Judging.{is_memory, altered_rows, unfit_column_refusal
 use Rattle.dm_table.proofs.Refusing.{Judged, first_refusal-append, passes, stops, goes_on}
 
 module _ (before : Layout) (rows : RowMap) (after : Layout) (same : pointwise same_name before.primary after.primary ≡ true) where
-  abbrev unfit : Option TableFault
+  abbrev pub unfit : Option TableFault
   unfit = first_refusal (unfit_column_refusals before.columns rows (columns_in_order after.columns))
 
-  abbrev shared : RowMap → Option TableFault
+  abbrev pub shared : RowMap → Option TableFault
   shared made = first_refusal (shared_refusals after made (uniques_in_order after.uniques))
 
-  abbrev refusal : Option TableFault
+  abbrev pub refusal : Option TableFault
   refusal = first_refusal (alter_refusals (record { layout = before; rows = rows }) after)
 
-  in_parts : refusal ≡ option_or unfit (shared (reshaped before.columns after.columns rows))
+  pub in_parts : refusal ≡ option_or unfit (shared (reshaped before.columns after.columns rows))
   in_parts = ap (λ b. cond (not b) (Some fault.PrimaryDiffers) (first_refusal (unfit_column_refusals before.columns rows (columns_in_order after.columns) ++ shared_refusals after (reshaped before.columns after.columns rows) (uniques_in_order after.uniques)))) same
       ∙ first_refusal-append (unfit_column_refusals before.columns rows (columns_in_order after.columns)) (shared_refusals after (reshaped before.columns after.columns rows) (uniques_in_order after.uniques))
 

@@ -71,7 +71,7 @@ get-over m (e ∷ es) q = get-insert row_total (over m es) e.0 e.1 q ∙ by (sam
   by true h = refl
   by false h = h
 
-tied : (o : Ordering) → is_eq o ≡ true → o ≡ Equal
+pub tied : (o : Ordering) → is_eq o ≡ true → o ≡ Equal
 tied Less h = absurd (false≢true h)
 tied Equal h = refl
 tied Greater h = absurd (false≢true h)
@@ -88,16 +88,16 @@ put_first m k v es absent = same_map row_total row_exact _ _ (λ q.
           ∙ sym (ap (λ b. cond b (Some v) (option_or (find row_cmp q es) (fin.get m q))) same)
       by q false other = ap (λ b. option_or (find row_cmp q es) (cond b (Some v) (fin.get m q))) other ∙ sym (ap (λ b. cond b (Some v) (option_or (find row_cmp q es) (fin.get m q))) other)
 
-first : (a b : Bool) → T (a && b) → T a
+pub first : (a b : Bool) → T (a && b) → T a
 first true b p = tt
 first false b p = p
 
-second : (a b : Bool) → T (a && b) → T b
+pub second : (a b : Bool) → T (a && b) → T b
 second true b p = p
 second false b p = absurd p
 
 -- the first of sorted entries is not among the others
-apart : (k : Row) (es : List (Row × Row)) → T (below_all row_cmp k es) → find row_cmp k es ≡ None
+pub apart : (k : Row) (es : List (Row × Row)) → T (below_all row_cmp k es) → find row_cmp k es ≡ None
 apart k [] h = refl
 apart k (e ∷ es) h = cond-false (same_row k e.0) (Some e.1) (find row_cmp k es) (less (row_cmp k e.0) (first _ _ h)) ∙ apart k es (second _ _ h) where
   less : (o : Ordering) → T (is_lt o) → is_eq o ≡ false

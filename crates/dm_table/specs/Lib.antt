@@ -3,3 +3,5 @@ pub mod Operations
 pub mod Alterations
 pub mod Coding
 pub mod Judging
+pub mod Meeting
+pub mod Following
