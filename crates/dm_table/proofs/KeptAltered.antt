@@ -1,5 +1,5 @@
 -- An alteration that isn't refused leaves rows that fit, stand under their own keys, and are apart in unique keys.
-use Rattle.std.proofs.Common.{◌≡◌, Bool, true, false, not, ◌&&◌, ◌||◌, List, [], ◌∷◌, length, map, Option, Some, None, Ok, refl, sym, ap, subst, ◌∙◌, inl, inr, arith}
+use Rattle.std.proofs.Common.{◌≡◌, Bool, true, false, not, ◌&&◌, ◌||◌, List, [], ◌∷◌, length, map, Option, Some, None, Result, Ok, refl, sym, ap, subst, ◌∙◌, inl, inr, arith}
 use Rattle.std.specs.Prelude.{is_none, is_some, unwrap_or, ◌⊎◌}
 use Rattle.std.specs.Option.{option_map, option_map_or, option_or}
 use Rattle.std.specs.List.{list_any, list_all, find, zip}
@@ -22,10 +22,15 @@ use Rattle.dm_schema.specs.Schemas.{is_formed, all_columns}
 use Rattle.dm_join.proofs.Formed.{formed_parts}
 use Rattle.dm_table.specs.Contents.{Row, RowMap, TableContent, AreRows, same_row, agree_in, share_unique, fits_row}
 use Rattle.dm_table.specs.Operations.{is_unfit_value}
-use Rattle.dm_table.specs.Alterations.{altered, reshaped, reshaped_row, reshaped_value, has_unfit, is_unfit_column, is_shared}
+use Rattle.dm_table.specs.Alterations.{altered, alter_refusals, reshaped, reshaped_row, reshaped_value, has_unfit, is_unfit_column, is_shared}
+use Rattle.dm_list.specs.Answer.{first_refusal, unless_refused}
+use Rattle.dm_table.specs.declared.fault.TableFault.{TableFault}
+use Rattle.dm_table.specs.Following.{Follows}
+use Rattle.dm_table.specs.Judging.{altered_rows}
+use Rattle.dm_table.proofs.Taken.{not_refused}
 use Rattle.dm_table.proofs.ListTests.{each, each_of_two, none_passes, something_found, turned}
 use Rattle.dm_table.proofs.CellLaws.{fits_row-map, cell_there, nowhere_lacks, equal_names}
-use Rattle.dm_table.proofs.Followed.{get-reshaped, altered_is, same_primary, all_fit, none_shared, cell-reshaped}
+use Rattle.dm_table.proofs.Followed.{get-reshaped, altered_is, same_primary, all_fit, none_shared, cell-reshaped, follows}
 use Rattle.dm_table.proofs.KeptRows.{fill_is_fit, fills_fit, entry_tested, denied}
 
 -- the same names in the same order
@@ -135,3 +140,21 @@ module _ (before : TableContent) (layout : Layout) (after : TableContent) (goes 
 
   pub altered_keeps : AreRows after.layout after.rows
   altered_keeps = subst (λ (t : TableContent). AreRows t.layout t.rows) (altered_is before layout after goes) made_are
+
+-- The same, of the rows alone.
+
+pub goes_by_rows : (before after : Layout) (rows made : RowMap) → Ok made ≡ altered_rows before rows after → altered (record { layout = before; rows = rows }) after ≡ Ok (record { layout = after; rows = made })
+goes_by_rows before after rows made is =
+    let parts = not_refused (first_refusal (alter_refusals (record { layout = before; rows = rows }) after)) (reshaped before.columns after.columns rows) made (sym is) in
+    ap (λ o. unless_refused o (record { layout = after; rows = reshaped before.columns after.columns rows })) parts.0
+    ∙ ap (λ (m : RowMap). let r : Result TableContent TableFault = Ok (record { layout = after; rows = m }) in r) parts.1
+
+pub rows_keep : (before after : Layout) (rows made : RowMap) → is_formed before ≡ true → is_formed after ≡ true → Ok made ≡ altered_rows before rows after → AreRows before rows → AreRows after made
+rows_keep before after rows made formed_before formed is are =
+    altered_keeps (record { layout = before; rows = rows }) after (record { layout = after; rows = made }) (goes_by_rows before after rows made is) formed_before formed are
+
+pub rows_follow : (before after given : Layout) (rows made : RowMap) (table : TableContent) → Ok made ≡ altered_rows before rows after → record { layout = before; rows = rows } ≡ table → given ≡ after → Follows table (record { layout = given; rows = made })
+rows_follow before after given rows made table is seen copied =
+    subst (λ (t : TableContent). Follows t (record { layout = given; rows = made })) seen
+    (subst (λ (l : Layout). Follows (record { layout = before; rows = rows }) (record { layout = l; rows = made })) (sym copied)
+    (follows (record { layout = before; rows = rows }) after (record { layout = after; rows = made }) (goes_by_rows before after rows made is)))

@@ -24,7 +24,9 @@ use Rattle.dm_table.specs.declared.op.RowOp.{RowOp}
 use Rattle.dm_table.specs.declared.op.RowOp.TheVariants as op
 use Rattle.dm_table.specs.declared.fault.TableFault.{TableFault}
 use Rattle.dm_table.specs.Contents.{Row, RowMap, AreRows, same_row, agree_in, share_unique, fits_row}
-use Rattle.dm_table.specs.Operations.{effect, applied, all_applied, given, left_value, left_row, is_unfit, is_unfit_value, needs_room, is_other, is_unique_taken, old_row, without_sharing}
+use Rattle.dm_table.specs.Operations.{refusals, effect, applied, all_applied, given, left_value, left_row, is_unfit, is_unfit_value, needs_room, is_other, is_unique_taken, old_row, without_sharing}
+use Rattle.dm_list.specs.Answer.{first_refusal, unless_refused}
+use Rattle.dm_table.proofs.Refusing.{Judged, passes}
 use Rattle.dm_table.proofs.ListTests.{each, each_of_two, none_passes, turned}
 use Rattle.dm_table.proofs.CellLaws.{fits_row-map, fits_there, cells_fit}
 use Rattle.dm_join.proofs.Lists.{all_from}
@@ -232,3 +234,9 @@ module _ (layout : Layout) (rows : RowMap) (formed : is_formed layout ≡ true) 
   keeps (op.Update columns key row) after goes = subst (AreRows layout) (leaves layout (op.Update columns key row) rows after goes) (update_keeps columns key row after goes)
   keeps (op.Delete key) after goes = subst (AreRows layout) (leaves layout (op.Delete key) rows after goes) (remove_keeps key)
   keeps (op.Erase key) after goes = subst (AreRows layout) (leaves layout (op.Erase key) rows after goes) (remove_keeps key)
+
+-- the same of an operation that was judged, and its effect
+pub effect_keeps : (layout : Layout) (o : RowOp) (rows after : RowMap) (u : Unit {0}) → is_formed layout ≡ true → Judged (Ok u) (first_refusal (refusals layout o rows)) → after ≡ effect layout o rows → AreRows layout rows → AreRows layout after
+effect_keeps layout o rows after u formed judged is are =
+    keeps layout rows formed are o after
+    (ap (λ refusal. unless_refused refusal (effect layout o rows)) (passes u (first_refusal (refusals layout o rows)) judged) ∙ ap (λ (m : RowMap). let r : Result RowMap TableFault = Ok m in r) (sym is))

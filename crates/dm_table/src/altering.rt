@@ -6,7 +6,7 @@ ghost use Rattle.dm_list.specs.Answer.{first_refusal, unless_refused, Answers};
 ghost use Rattle.dm_schema.specs.Kinds.{is_column, is_kind};
 ghost use Rattle.dm_schema.specs.Names.{same_name};
 ghost use Rattle.dm_schema.specs.NameOrder.{columns_in_order, uniques_in_order};
-ghost use Rattle.dm_table.specs.Contents.{same_row, agree_in};
+ghost use Rattle.dm_table.specs.Contents.{AreRows, same_row, agree_in};
 ghost use Rattle.dm_table.specs.Alterations.{reshaped, reshaped_row, reshaped_value, has_unfit, is_unfit_column, is_shared};
 ghost use Rattle.dm_table.specs.Judging.{is_memory, altered_rows, unfit_column_refusals, shared_refusals};
 
@@ -26,7 +26,8 @@ pub fn altered_rows(
     rows: &KeyedRows,
     after: &Schema,
 ) -> Result<KeyedRows, TableFault>
-    ensures { Answers is_memory result (altered_rows before.now rows.now after.now) }
+    ensures altered { Answers is_memory result (altered_rows before.now rows.now after.now) }
+    ensures rows { IfOk result (λ made. AreRows before.now rows.now → AreRows after.now made) }
 {
     if !same_primary(before, after) {
         return Err(TableFault::PrimaryDiffers);

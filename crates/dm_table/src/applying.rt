@@ -1,5 +1,6 @@
-ghost use Rattle.std.specs.Prelude.{◌≡◌, ⊤, Ok, Err, MatchBool, IfOk, IfErr};
+ghost use Rattle.std.specs.Prelude.{◌≡◌, ⊤, Ok, Err, MatchBool, IfOk, IfErr, OnOk};
 ghost use Rattle.dm_list.specs.Answer.{Answers};
+ghost use Rattle.dm_table.specs.Contents.{AreRows};
 ghost use Rattle.dm_table.specs.Operations.{applied, all_applied};
 ghost use Rattle.dm_table.specs.Judging.{is_memory};
 
@@ -18,7 +19,8 @@ pub fn all_applied(
     rows: &KeyedRows,
     ops: &[RowOp],
 ) -> Result<KeyedRows, TableFault>
-    ensures { Answers is_memory result (all_applied schema.now ops.now rows.now) }
+    ensures applied { Answers is_memory result (all_applied schema.now ops.now rows.now) }
+    ensures rows { IfOk result (λ now. AreRows schema.now rows.now → AreRows schema.now now) }
 {
     let mut now = rows.copy(alloc)?;
     for op in ops {
@@ -36,6 +38,7 @@ fn apply_one(
 ) -> Result<(), TableFault>
     ensures applied { IfOk result (λ _. applied schema.now op.now rows.old ≡ Ok rows.new) }
     ensures refused { IfErr result (λ f. MatchBool (is_memory f) ⊤ (applied schema.now op.now rows.old ≡ Err f)) }
+    ensures rows { OnOk result (AreRows schema.now rows.old → AreRows schema.now rows.new) }
 {
     judge(alloc, schema, op, rows)?;
     take_effect(alloc, schema, op, rows)?;

@@ -1,8 +1,9 @@
-ghost use Rattle.std.specs.Prelude.{◌≡◌, IsTrue};
+ghost use Rattle.std.specs.Prelude.{◌≡◌, IsTrue, OnOk};
 ghost use Rattle.std.specs.Option.{option_copied};
 ghost use Rattle.std.specs.List.{list_all};
 ghost use Rattle.dm_list.specs.Answer.{first_refusal, unless_refused, Answers};
 ghost use Rattle.dm_schema.specs.Kinds.{is_column, is_kind};
+ghost use Rattle.dm_schema.specs.Schemas.{is_formed};
 ghost use Rattle.dm_schema.specs.NameOrder.{columns_in_order, uniques_in_order};
 ghost use Rattle.dm_table.specs.Operations.{refusals, names_in_order, columns_of, is_unfit, lacks_value, key_value, is_other, old_row, is_unique_taken};
 ghost use Rattle.dm_table.specs.Judging.{is_memory, unknown_refusals, unfit_refusals, missing_refusals, primary_refusals, unique_refusals};
@@ -22,7 +23,8 @@ use std::alloc::Global;
 
 /// Whether an operation may be taken: the first of its refusals, in their order.
 pub fn judge(alloc: Global, schema: &Schema, op: &RowOp, rows: &KeyedRows) -> Result<(), TableFault>
-    ensures { Answers is_memory result (unless_refused (first_refusal (refusals schema.now op.now rows.now)) tt) }
+    ensures judged { Answers is_memory result (unless_refused (first_refusal (refusals schema.now op.now rows.now)) tt) }
+    ensures formed { OnOk result (IsTrue (is_formed schema.now)) }
 {
     refuse_unknown(alloc, schema, op)?;
     refuse_unfit(alloc, schema, op)?;
@@ -62,7 +64,8 @@ fn refuse_unknown_among(
 
 /// Refuses an operation with a value that doesn't fit, or without one that is needed.
 fn refuse_unfit(alloc: Global, schema: &Schema, op: &RowOp) -> Result<(), TableFault>
-    ensures { Answers is_memory result (unless_refused (first_refusal (unfit_refusals schema.now op.now (columns_in_order schema.now.columns))) tt) }
+    ensures judged { Answers is_memory result (unless_refused (first_refusal (unfit_refusals schema.now op.now (columns_in_order schema.now.columns))) tt) }
+    ensures formed { IsTrue (is_formed schema.now) }
 {
     let columns = in_name_order(alloc, schema.columns())?;
     refuse_unfit_among(alloc, schema, op, &columns)

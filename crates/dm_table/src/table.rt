@@ -1,9 +1,13 @@
-ghost use Rattle.std.specs.Prelude.{◌≡◌, ⊤, Ok, Err, MatchBool, IfOk, IfErr, take, drop};
+ghost use Rattle.std.specs.Prelude.{◌≡◌, ⊤, false, List, [], ◌∷◌, ◌++◌, Ok, Err, MatchBool, IfOk, IfErr, OnOk, take, drop};
 ghost use Rattle.std.specs.Option.{option_copied};
 ghost use Rattle.std.specs.FinMap as fin;
-ghost use Rattle.dm_table.specs.Contents.{new_table};
+ghost use Rattle.dm_value.specs.declared.value.Value.{Value};
+ghost use Rattle.dm_table.specs.declared.op.RowOp.{RowOp};
+ghost use Rattle.dm_table.specs.Contents.{AreRows, new_table};
 ghost use Rattle.dm_table.specs.Operations.{table_applied};
 ghost use Rattle.dm_table.specs.Alterations.{altered};
+ghost use Rattle.dm_table.specs.Meeting.{meets};
+ghost use Rattle.dm_table.specs.Following.{Follows};
 ghost use Rattle.dm_table.specs.Judging.{is_memory};
 
 use crate::altering::altered_rows;
@@ -25,7 +29,7 @@ pub struct Table {
 }
 
 impl Model for Table {
-    ghost use Rattle.dm_table.specs.Contents.{TableContent};
+    ghost use Rattle.dm_table.specs.Contents.{TableContent, AreRows};
     ghost use Rattle.dm_table.specs.Coding.{coded_table};
 
     ghost Value = { TableContent };
@@ -33,6 +37,8 @@ impl Model for Table {
     ghost coded = { coded_table };
 
     ghost view = { λ table. record { layout = table.schema; rows = table.rows } };
+
+    ghost invariant = { λ table. AreRows table.schema table.rows };
 }
 
 impl Table {
@@ -68,7 +74,8 @@ impl Table {
 
     /// The rows under their primary keys, in the order of the keys.
     pub fn rows(&self) -> &BTreeMap<Row, Row>
-        ensures { result.now.entries ≡ fin.entries self.now.rows }
+        ensures entries { result.now.entries ≡ fin.entries self.now.rows }
+        ensures rows { AreRows self.now.layout self.now.rows }
     {
         self.rows.in_order()
     }
@@ -97,6 +104,8 @@ impl Table {
         ensures applied { IfOk result (λ _. table_applied self.old ops.now ≡ Ok self.new) }
         ensures refused { IfErr result (λ f. MatchBool (is_memory f) ⊤ (table_applied self.old ops.now ≡ Err f)) }
         ensures kept { IfErr result (λ _. self.new ≡ self.old) }
+        ensures elsewhere { (o : RowOp) (key : List Value) → ops.now ≡ o ∷ [] → meets self.old.layout o self.old.rows key ≡ false → OnOk result (fin.get self.new.rows key ≡ fin.get self.old.rows key) }
+        ensures in_turn { (more : List RowOp) → OnOk result (table_applied self.old (ops.now ++ more) ≡ table_applied self.new more) }
     {
         let rows = all_applied(alloc, &self.schema, &self.rows, ops)?;
         self.rows = rows;
@@ -109,6 +118,7 @@ impl Table {
         ensures altered { IfOk result (λ _. altered self.old schema.now ≡ Ok self.new) }
         ensures refused { IfErr result (λ f. MatchBool (is_memory f) ⊤ (altered self.old schema.now ≡ Err f)) }
         ensures kept { IfErr result (λ _. self.new ≡ self.old) }
+        ensures follows { OnOk result (Follows self.old self.new) }
     {
         let rows = altered_rows(alloc, &self.schema, &self.rows, schema)?;
         let schema = schema.copy(alloc)?;
