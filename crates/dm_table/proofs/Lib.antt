@@ -12,3 +12,4 @@ pub mod CellLaws
 pub mod Followed
 pub mod KeptRows
 pub mod KeptAltered
+pub mod SeenAgain

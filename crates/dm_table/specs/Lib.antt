@@ -5,3 +5,4 @@ pub mod Coding
 pub mod Judging
 pub mod Meeting
 pub mod Following
+pub mod Seeing

@@ -1,21 +1,23 @@
-ghost use Rattle.std.specs.Prelude.{◌≡◌, ◌&&◌, not, IsTrue, IfOk};
+ghost use Rattle.std.specs.Prelude.{◌≡◌, true, List, ◌∷◌, is_some, IsTrue, IfOk, if◌then◌else◌};
 ghost use Rattle.std.specs.List.{list_any, list_all};
 ghost use Rattle.std.specs.FinMap as fin;
 ghost use Rattle.std.specs.Cmp.Lexicographic.{pointwise};
 ghost use Rattle.dm_list.specs.Answer.{first_refusal, unless_refused, Answers};
-ghost use Rattle.dm_schema.specs.Kinds.{is_column, is_kind};
+ghost use Rattle.dm_value.specs.declared.value.Value.{Value};
+ghost use Rattle.dm_schema.specs.Kinds.{is_column, is_kind, is_null};
 ghost use Rattle.dm_schema.specs.Names.{same_name};
 ghost use Rattle.dm_schema.specs.NameOrder.{columns_in_order, uniques_in_order};
-ghost use Rattle.dm_table.specs.Contents.{AreRows, same_row, agree_in};
+ghost use Rattle.dm_table.specs.Contents.{AreRows};
 ghost use Rattle.dm_table.specs.Alterations.{reshaped, reshaped_row, reshaped_value, has_unfit, is_unfit_column, is_shared};
+ghost use Rattle.dm_table.specs.Seeing.{seen_again, IsNoted};
 ghost use Rattle.dm_table.specs.Judging.{is_memory, altered_rows, unfit_column_refusals, shared_refusals};
 
 use crate::TableFault;
 use crate::cells::{cell, is_unfit_value};
 use crate::keyed::KeyedRows;
-use crate::sharing::{agree_in, duplicate};
+use crate::sharing::duplicate;
 use dm_list::Copied;
-use dm_schema::{Column, Schema, UniqueKey, comparable, fill, has_fill, in_name_order};
+use dm_schema::{Column, Schema, UniqueKey, comparable, fill, has_fill, in_name_order, values_at};
 use dm_value::{Row, Value};
 use std::alloc::{AllocError, Global};
 
@@ -160,10 +162,11 @@ fn refuse_shared(alloc: Global, schema: &Schema, rows: &KeyedRows) -> Result<(),
     ensures { Answers is_memory result (unless_refused (first_refusal (shared_refusals schema.now rows.now (uniques_in_order schema.now.uniques))) tt) }
 {
     let keys = in_name_order(alloc, schema.uniques())?;
-    refuse_shared_among(schema, rows, &keys)
+    refuse_shared_among(alloc, schema, rows, &keys)
 }
 
 fn refuse_shared_among(
+    alloc: Global,
     schema: &Schema,
     rows: &KeyedRows,
     keys: &[UniqueKey],
@@ -173,40 +176,65 @@ fn refuse_shared_among(
     match keys {
         [] => Ok(()),
         [key, rest @ ..] => {
-            if is_shared(key, schema.columns(), rows) {
+            if is_shared(alloc, key, schema.columns(), rows)? {
                 return Err(duplicate(schema, key));
             }
-            refuse_shared_among(schema, rows, rest)
+            refuse_shared_among(alloc, schema, rows, rest)
         }
     }
 }
 
 /// Whether two rows agree in a unique key.
-fn is_shared(key: &UniqueKey, columns: &[Column], rows: &KeyedRows) -> bool
-    ensures { result ≡ is_shared key.now columns.now rows.now }
-{
-    for (place, row) in rows.in_order() {
-        if agrees_with_other(key, columns, rows, place, row) {
-            return true;
-        }
-    }
-    false
-}
-
-/// Whether a row of another key agrees with this one in a unique key.
-fn agrees_with_other(
+fn is_shared(
+    alloc: Global,
     key: &UniqueKey,
     columns: &[Column],
     rows: &KeyedRows,
-    place: &Row,
-    row: &Row,
-) -> bool
-    ensures { result ≡ list_any (λ b. not (same_row place.now b.0) && agree_in key.now columns.now row.now b.1) (fin.entries rows.now) }
+) -> Result<bool, AllocError>
+    ensures { IfOk result (λ shared. shared ≡ is_shared key.now columns.now rows.now) }
 {
-    for (other_place, other) in rows.in_order() {
-        if !place.cmp(other_place).is_eq() && agree_in(key, columns, row, other) {
-            return true;
+    let mut seen = KeyedRows::new(alloc);
+    for row in rows.in_order().values() {
+        if see_again(alloc, key, columns, row, &mut seen)? {
+            return Ok(true);
         }
     }
-    false
+    Ok(false)
+}
+
+/// Notes the values of a row under a unique key, unless one is NULL; whether they were noted before.
+fn see_again(
+    alloc: Global,
+    key: &UniqueKey,
+    columns: &[Column],
+    row: &Row,
+    seen: &mut KeyedRows,
+) -> Result<bool, AllocError>
+    ensures { IfOk result (λ again. (rest : List (List Value))
+        → seen_again key.now columns.now (λ values. is_some (fin.get seen.old values)) (row.now ∷ rest)
+        ≡ (if again then true else seen_again key.now columns.now (λ values. is_some (fin.get seen.new values)) rest)) }
+{
+    let values = values_at(alloc, columns, row.as_slice(), key.columns.as_slice())?;
+    if has_null(&values) {
+        return Ok(false);
+    }
+    note(alloc, Row::new(values), seen)
+}
+
+/// Notes values; whether they were noted before.
+fn note(alloc: Global, values: Row, seen: &mut KeyedRows) -> Result<bool, AllocError>
+    ensures { IfOk result (λ again. IsNoted seen.old values again seen.new) }
+{
+    if seen.get(&values).is_some() {
+        return Ok(true);
+    }
+    let held = values.copy(alloc)?;
+    seen.insert(values, held)?;
+    Ok(false)
+}
+
+fn has_null(values: &[Value]) -> bool
+    ensures { result ≡ list_any is_null values.now }
+{
+    values.iter().any(|value| matches!(value, Value::Null))
 }

@@ -113,7 +113,7 @@ impl Table {
     }
 
     /// Gives the table another schema, whose columns may stand in any order; or leaves it as it is, where that is
-    /// refused or memory is wanting.
+    /// refused or memory is wanting. The rows are made anew, and each unique key notes the values of all of them.
     pub fn alter(&mut self, alloc: Global, schema: &Schema) -> Result<(), TableFault>
         ensures altered { IfOk result (λ _. altered self.old schema.now ≡ Ok self.new) }
         ensures refused { IfErr result (λ f. MatchBool (is_memory f) ⊤ (altered self.old schema.now ≡ Err f)) }
