@@ -1,6 +1,6 @@
 -- Rows under their keys, as a sorted list of entries and as a map.
-use Rattle.std.proofs.Common.{◌≡◌, Bool, true, false, cond, ◌&&◌, List, [], ◌∷◌, map, Option, Some, None, refl, sym, ap, subst, ◌∙◌}
-use Rattle.std.specs.Prelude.{T, ⊤}
+use Rattle.std.proofs.Common.{◌≡◌, Bool, true, false, cond, ◌&&◌, List, [], ◌∷◌, map, Some, None, refl, sym, ap, subst, ◌∙◌}
+use Rattle.std.specs.Prelude.{T}
 use Rattle.std.specs.declared.cmp.Ordering.{Ordering}
 use Rattle.std.specs.declared.cmp.Ordering.TheVariants.{Less, Equal, Greater}
 use Rattle.std.specs.Ordering.{is_lt, is_eq}
@@ -96,14 +96,15 @@ pub second : (a b : Bool) → T (a && b) → T b
 second true b p = p
 second false b p = absurd p
 
+pub other_if_less : (o : Ordering) → T (is_lt o) → is_eq o ≡ false
+other_if_less Less f = refl
+other_if_less Equal f = absurd f
+other_if_less Greater f = absurd f
+
 -- the first of sorted entries is not among the others
 pub apart : (k : Row) (es : List (Row × Row)) → T (below_all row_cmp k es) → find row_cmp k es ≡ None
 apart k [] h = refl
-apart k (e ∷ es) h = cond-false (same_row k e.0) (Some e.1) (find row_cmp k es) (less (row_cmp k e.0) (first _ _ h)) ∙ apart k es (second _ _ h) where
-  less : (o : Ordering) → T (is_lt o) → is_eq o ≡ false
-  less Less f = refl
-  less Equal f = absurd f
-  less Greater f = absurd f
+apart k (e ∷ es) h = cond-false (same_row k e.0) (Some e.1) (find row_cmp k es) (other_if_less (row_cmp k e.0) (first _ _ h)) ∙ apart k es (second _ _ h)
 
 -- what a loop over entries keeps: those to come over those that were put, and their order
 pub record Puts (made : RowMap) (es : List (Row × Row)) (total : RowMap) : Type 0 where

@@ -1,13 +1,13 @@
 -- What an alteration keeps of a table's rows.
-use Rattle.std.proofs.Common.{◌≡◌, Bool, true, false, cond, not, ◌&&◌, ◌||◌, List, [], ◌∷◌, ◌++◌, map, Option, Some, None, Result, Ok, is_some, refl, sym, ap, subst, ◌∙◌}
+use Rattle.std.proofs.Common.{◌≡◌, Bool, true, false, cond, not, List, [], ◌∷◌, ◌++◌, map, Option, Some, None, Ok, is_some, refl, sym, ap, subst, ◌∙◌}
 use Rattle.std.specs.Prelude.{is_none, IsSome, unwrap_or}
 use Rattle.std.specs.Option.{option_map, option_or}
-use Rattle.std.specs.List.{list_any, list_all, find, zip}
+use Rattle.std.specs.List.{list_all}
 use Rattle.std.specs.Cmp.Lexicographic.{pointwise}
 use Rattle.std.specs.FinMap as fin
 use Rattle.std.specs.FinMap.{find as entry, get-from_entries, get-entries}
-use Rattle.std.proofs.lemmas.Bool.{or_parts, false≢true}
-use Rattle.dm_list.specs.Answer.{first_refusal, unless_refused}
+use Rattle.std.proofs.lemmas.Bool.{false≢true}
+use Rattle.dm_list.specs.Answer.{first_refusal}
 use Rattle.dm_value.specs.declared.value.Value.{Value}
 use Rattle.dm_value.specs.declared.value.Value.TheVariants as value
 use Rattle.dm_value.specs.Order.{row_cmp}
@@ -19,7 +19,6 @@ use Rattle.dm_schema.specs.NameOrder.{columns_in_order, uniques_in_order}
 use Rattle.dm_schema.specs.Fill.{fill}
 use Rattle.dm_schema.specs.Keys.{key_number}
 use Rattle.dm_schema.specs.Rows.{cell}
-use Rattle.dm_table.specs.declared.fault.TableFault.{TableFault}
 use Rattle.dm_table.specs.declared.fault.TableFault.TheVariants as fault
 use Rattle.dm_table.specs.Contents.{Row, RowMap, TableContent, same_row}
 use Rattle.dm_table.specs.Alterations.{altered, alter_refusals, reshaped, reshaped_row, reshaped_value, is_unfit_column, is_shared}

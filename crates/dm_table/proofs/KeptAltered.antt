@@ -1,12 +1,12 @@
 -- An alteration that isn't refused leaves rows that fit, stand under their own keys, and are apart in unique keys.
-use Rattle.std.proofs.Common.{◌≡◌, Bool, true, false, not, ◌&&◌, ◌||◌, List, [], ◌∷◌, length, map, Option, Some, None, Result, Ok, refl, sym, ap, subst, ◌∙◌, inl, inr, arith}
+use Rattle.std.proofs.Common.{◌≡◌, Bool, true, false, not, ◌&&◌, ◌||◌, List, [], ◌∷◌, length, map, Option, Some, None, Result, Ok, refl, sym, ap, subst, ◌∙◌, inl, inr}
 use Rattle.std.specs.Prelude.{is_none, is_some, unwrap_or, ◌⊎◌}
 use Rattle.std.specs.Option.{option_map, option_map_or, option_or}
-use Rattle.std.specs.List.{list_any, list_all, find, zip}
+use Rattle.std.specs.List.{list_any, list_all}
 use Rattle.std.specs.Cmp.Lexicographic.{pointwise}
 use Rattle.std.specs.FinMap as fin
 use Rattle.std.specs.FinMap.{get-entries}
-use Rattle.std.proofs.lemmas.Bool.{cases_Bool, and_parts, or_parts, and_from, false≢true, both_ways}
+use Rattle.std.proofs.lemmas.Bool.{cases_Bool, not-false, and_parts, or_parts, and_from, false≢true, both_ways}
 use Rattle.std.proofs.lemmas.List.{length-map}
 use Rattle.dm_value.specs.declared.value.Value.{Value}
 use Rattle.dm_value.specs.declared.value.Value.TheVariants as value
@@ -28,10 +28,10 @@ use Rattle.dm_table.specs.declared.fault.TableFault.{TableFault}
 use Rattle.dm_table.specs.Following.{Follows}
 use Rattle.dm_table.specs.Judging.{altered_rows}
 use Rattle.dm_table.proofs.Taken.{not_refused}
-use Rattle.dm_table.proofs.ListTests.{each, each_of_two, none_passes, something_found, turned}
+use Rattle.dm_table.proofs.ListTests.{list_any-map, each, each_of_two, none_passes, something_found, turned}
 use Rattle.dm_table.proofs.CellLaws.{fits_row-map, cell_there, nowhere_lacks, equal_names}
 use Rattle.dm_table.proofs.Followed.{get-reshaped, altered_is, same_primary, all_fit, none_shared, cell-reshaped, follows}
-use Rattle.dm_table.proofs.KeptRows.{fill_is_fit, fills_fit, entry_tested, denied}
+use Rattle.dm_table.proofs.KeptRows.{fill_is_fit, fills_fit, entry_tested}
 
 -- the same names in the same order
 names_are : (xs ys : List Text) → pointwise same_name xs ys ≡ true → xs ≡ ys
@@ -47,10 +47,6 @@ map_alike f g p [] all step = refl
 map_alike f g p (x ∷ xs) all step =
     let parts = and_parts (p x) (list_all p xs) all in
     ap (λ (v : Value). v ∷ map f xs) (step x parts.0) ∙ ap (λ (vs : List Value). g x ∷ vs) (map_alike f g p xs parts.1 step)
-
-any-map : (f : Row → Bool) (es : List (Row × Row)) → list_any f (map (λ e. e.1) es) ≡ list_any (λ e. f e.1) es
-any-map f [] = refl
-any-map f (e ∷ es) = ap (λ b. f e.1 || b) (any-map f es)
 
 some_value : (o : Option Value) → is_some o ≡ true → (v : Value) × (o ≡ Some v)
 some_value None h = absurd (false≢true h)
@@ -86,12 +82,12 @@ module _ (before : TableContent) (layout : Layout) (after : TableContent) (goes 
       none_unfit = (or_parts (not (comparable old.kind c.kind)) (has_unfit before.layout.columns before.rows c) (turned (not (comparable old.kind c.kind) || has_unfit before.layout.columns before.rows c) (rw there at h))).1
 
       tested : is_unfit_value (cell before.layout.columns row c.name) c ≡ false
-      tested = entry_tested (λ e. is_unfit_value (cell before.layout.columns e.1 c.name) c) (fin.entries before.rows) key row (sym (any-map (λ row. is_unfit_value (cell before.layout.columns row c.name) c) (fin.entries before.rows)) ∙ none_unfit)
+      tested = entry_tested (λ e. is_unfit_value (cell before.layout.columns e.1 c.name) c) (fin.entries before.rows) key row (sym (list_any-map (λ row. is_unfit_value (cell before.layout.columns row c.name) c) (λ (e : Row × Row). e.1) (fin.entries before.rows)) ∙ none_unfit)
           (sym (get-entries before.rows key) ∙ is)
 
       kept : (o : Option Value) → cell before.layout.columns row c.name ≡ o → fits (reshaped_value before.layout.columns row c) c ≡ true
       kept None lacks = absurd (false≢true (sym (ap is_some lacks) ∙ cell_there before.layout.columns row c.name (are.long key row is) (ap is_some there)))
-      kept (Some v) has = ap (λ o. fits (unwrap_or (option_or o (fill c)) value.Null) c) has ∙ denied (fits v c) (sym (ap (λ o. is_unfit_value o c) has) ∙ tested)
+      kept (Some v) has = ap (λ o. fits (unwrap_or (option_or o (fill c)) value.Null) c) has ∙ not-false (fits v c) (sym (ap (λ o. is_unfit_value o c) has) ∙ tested)
 
   fit_row : (key row : Row) → fin.get before.rows key ≡ Some row → fits_row layout.columns (reshape row) ≡ true
   fit_row key row is =

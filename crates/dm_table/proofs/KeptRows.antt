@@ -1,11 +1,11 @@
 -- An operation that isn't refused leaves rows that fit, stand under their own keys, and are apart in unique keys.
-use Rattle.std.proofs.Common.{◌≡◌, Bool, true, false, cond, not, ◌&&◌, ◌||◌, List, [], ◌∷◌, length, map, Option, Some, None, Result, Ok, Err, refl, sym, ap, subst, ◌∙◌, inl, inr}
+use Rattle.std.proofs.Common.{◌≡◌, Bool, true, false, cond, not, ◌&&◌, ◌||◌, List, [], ◌∷◌, length, Option, Some, None, Result, Ok, refl, sym, ap, subst, ◌∙◌, inl, inr}
 use Rattle.std.specs.Prelude.{is_none, is_some, unwrap_or, option_and_then, ◌⊎◌}
 use Rattle.std.specs.Option.{option_map_or, option_or}
 use Rattle.std.specs.List.{list_any, list_all}
 use Rattle.std.specs.FinMap as fin
 use Rattle.std.specs.FinMap.{find, get-insert, get-remove, get-entries, get-empty}
-use Rattle.std.proofs.lemmas.Bool.{cases_Bool, and_parts, or_parts, or_right, and_from, false≢true, both_ways, cond-true, cond-false}
+use Rattle.std.proofs.lemmas.Bool.{cases_Bool, not-false, and_parts, or_parts, or_right, and_from, false≢true, both_ways, cond-true, cond-false}
 use Rattle.std.proofs.lemmas.List.{length-map}
 use Rattle.dm_value.specs.declared.value.Value.{Value}
 use Rattle.dm_value.specs.declared.value.Value.TheVariants as value
@@ -24,7 +24,7 @@ use Rattle.dm_table.specs.declared.op.RowOp.{RowOp}
 use Rattle.dm_table.specs.declared.op.RowOp.TheVariants as op
 use Rattle.dm_table.specs.declared.fault.TableFault.{TableFault}
 use Rattle.dm_table.specs.Contents.{Row, RowMap, AreRows, same_row, agree_in, share_unique, fits_row}
-use Rattle.dm_table.specs.Operations.{refusals, effect, applied, all_applied, given, left_value, left_row, is_unfit, is_unfit_value, needs_room, is_other, is_unique_taken, old_row, without_sharing}
+use Rattle.dm_table.specs.Operations.{refusals, effect, applied, given, left_value, left_row, is_unfit, is_unfit_value, needs_room, is_other, is_unique_taken, without_sharing}
 use Rattle.dm_list.specs.Answer.{first_refusal, unless_refused}
 use Rattle.dm_table.proofs.Refusing.{Judged, passes}
 use Rattle.dm_table.proofs.ListTests.{each, each_of_two, none_passes, turned}
@@ -133,13 +133,9 @@ fills_fit layout formed = all_from fill_is_fit layout.columns (λ c among. by c 
 missing_fits : (c : Column) (v : Value) → fill_is_fit c ≡ true → fill_for_missing c ≡ Some v → fits v c ≡ true
 missing_fits c v fit is = sym (ap (λ o. option_map_or (λ v. fits v c) o true) (missing_fills c (ap is_some is) ∙ is)) ∙ fit
 
-pub denied : (b : Bool) → not b ≡ false → b ≡ true
-denied true h = refl
-denied false h = absurd (false≢true (sym h))
-
 -- a value of a new row
 new_fits : (c : Column) (g : Option Value) → (is_unfit_value g c || (is_none g && is_none (fill_for_missing c)) || false) ≡ false → fill_is_fit c ≡ true → fits (unwrap_or (option_or g (fill_for_missing c)) value.Null) c ≡ true
-new_fits c (Some v) fine default = denied (fits v c) (or_parts (not (fits v c)) false (or_parts (not (fits v c) || false) false fine).0).0
+new_fits c (Some v) fine default = not-false (fits v c) (or_parts (not (fits v c)) false (or_parts (not (fits v c) || false) false fine).0).0
 new_fits c None fine default = by (fill_for_missing c) refl (or_parts false (is_none (fill_for_missing c)) (or_parts (is_none (fill_for_missing c)) false fine).0).1 where
   by : (o : Option Value) → fill_for_missing c ≡ o → is_none o ≡ false → fits (unwrap_or o value.Null) c ≡ true
   by None is some = absurd (false≢true (sym some))
@@ -147,7 +143,7 @@ new_fits c None fine default = by (fill_for_missing c) refl (or_parts false (is_
 
 -- a value of a row that was there
 old_fits : (c : Column) (g o : Option Value) → is_unfit_value g c ≡ false → fits_there c o ≡ true → fits (unwrap_or (option_or g o) value.Null) c ≡ true
-old_fits c (Some v) o fine there = denied (fits v c) fine
+old_fits c (Some v) o fine there = not-false (fits v c) fine
 old_fits c None None fine there = absurd (false≢true there)
 old_fits c None (Some v) fine there = there
 

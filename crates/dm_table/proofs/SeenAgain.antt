@@ -2,9 +2,6 @@
 use Rattle.std.proofs.Common.{◌≡◌, Bool, true, false, cond, not, ◌&&◌, ◌||◌, List, [], ◌∷◌, map, Option, Some, None, is_some, refl, sym, ap, ◌∙◌}
 use Rattle.std.specs.Prelude.{T}
 use Rattle.std.specs.List.{list_any}
-use Rattle.std.specs.Ordering.{is_lt, is_eq}
-use Rattle.std.specs.declared.cmp.Ordering.{Ordering}
-use Rattle.std.specs.declared.cmp.Ordering.TheVariants.{Less, Equal, Greater}
 use Rattle.std.specs.FinMap as fin
 use Rattle.std.specs.FinMap.{get-insert, get-empty, entries_sorted}
 use Rattle.std.specs.FinMap.Entries.{is_sorted, below_all}
@@ -16,7 +13,8 @@ use Rattle.dm_schema.specs.Kinds.{is_null}
 use Rattle.dm_table.specs.Contents.{Row, RowMap, same_row, agree_in}
 use Rattle.dm_table.specs.Alterations.{is_shared}
 use Rattle.dm_table.specs.Seeing.{under, has_values, seen_again, IsNoted}
-use Rattle.dm_table.proofs.Entries.{first, second}
+use Rattle.dm_table.proofs.ListTests.{list_any-map}
+use Rattle.dm_table.proofs.Entries.{first, second, other_if_less}
 use Rattle.dm_table.proofs.Filtered.{same_is_same, same_turned, same_itself}
 use Rattle.dm_table.proofs.KeptRows.{agree_turned}
 
@@ -72,7 +70,7 @@ module _ (key : UniqueKey) (columns : List Column) where
     by : (h : Bool) → has_values key columns row ≡ h → seen_again key columns seen rows ≡ (list_any (sees seen) rows || clash rows)
         → seen_again key columns (λ values. seen values || same_row values (under key columns row)) rows ≡ (list_any (sees (λ values. seen values || same_row values (under key columns row))) rows || clash rows)
         → cond h (seen (under key columns row) || seen_again key columns (λ values. seen values || same_row values (under key columns row)) rows) (seen_again key columns seen rows)
-          ≡ (((h && seen (under key columns row)) || list_any (sees seen) rows) || (list_any (λ other. h && same_row (under key columns row) (under key columns other)) rows || clash rows))
+        ≡ (((h && seen (under key columns row)) || list_any (sees seen) rows) || (list_any (λ other. h && same_row (under key columns row) (under key columns other)) rows || clash rows))
     by false has rest more = rest ∙ ap (λ b. list_any (sees seen) rows || (b || clash rows)) (sym (any_never rows))
     by true has rest more =
         ap (λ b. seen (under key columns row) || b) (more
@@ -88,18 +86,10 @@ module _ (key : UniqueKey) (columns : List Column) where
 
   apart_below : (k : Row) (a : Row) (es : List (Row × Row)) → T (below_all row_cmp k es) → list_any (λ e. not (same_row k e.0) && agree a e.1) es ≡ list_any (λ e. agree a e.1) es
   apart_below k a [] h = refl
-  apart_below k a (e ∷ es) h = ap (λ b. (not b && agree a e.1) || list_any (λ e. not (same_row k e.0) && agree a e.1) es) (less (row_cmp k e.0) (first _ _ h)) ∙ ap (λ b. agree a e.1 || b) (apart_below k a es (second _ _ h)) where
-    less : (o : Ordering) → T (is_lt o) → is_eq o ≡ false
-    less Less f = refl
-    less Equal f = absurd f
-    less Greater f = absurd f
+  apart_below k a (e ∷ es) h = ap (λ b. (not b && agree a e.1) || list_any (λ e. not (same_row k e.0) && agree a e.1) es) (other_if_less (row_cmp k e.0) (first _ _ h)) ∙ ap (λ b. agree a e.1 || b) (apart_below k a es (second _ _ h))
 
   abbrev pairs : List (Row × Row) → List (Row × Row) → Bool
   pairs xs ys = list_any (λ a. list_any (λ b. not (same_row a.0 b.0) && agree a.1 b.1) ys) xs
-
-  any-map : (f : Row → Bool) (es : List (Row × Row)) → list_any (λ e. f e.1) es ≡ list_any f (map (λ e. e.1) es)
-  any-map f [] = refl
-  any-map f (e ∷ es) = ap (λ b. f e.1 || b) (any-map f es)
 
   pairs_clash : (es : List (Row × Row)) → T (is_sorted row_cmp es) → pairs es es ≡ clash (map (λ e. e.1) es)
   pairs_clash [] h = refl
@@ -111,7 +101,7 @@ module _ (key : UniqueKey) (columns : List Column) where
       (any_alike (λ a. not (same_row a.0 e.0) && agree a.1 e.1) (λ a. not (same_row e.0 a.0) && agree e.1 a.1) (λ a. ap (λ b. not b && agree a.1 e.1) (same_turned a.0 e.0) ∙ ap (λ b. not (same_row e.0 a.0) && b) (agree_either_way a.1 e.1)) es
       ∙ apart_below e.0 e.1 es (first _ _ h))
       ∙ twice (list_any (λ b. agree e.1 b.1) es) (pairs es es)
-      ∙ ap (λ b. b || pairs es es) (any-map (agree e.1) es) ∙ ap (λ b. list_any (agree e.1) (map (λ e. e.1) es) || b) (pairs_clash es (second _ _ h)) where
+      ∙ ap (λ b. b || pairs es es) (sym (list_any-map (agree e.1) (λ (e : Row × Row). e.1) es)) ∙ ap (λ b. list_any (agree e.1) (map (λ e. e.1) es) || b) (pairs_clash es (second _ _ h)) where
         twice : (a b : Bool) → (a || (a || b)) ≡ (a || b)
         twice true b = refl
         twice false b = refl

@@ -1,5 +1,5 @@
 -- What an operation that isn't refused tells.
-use Rattle.std.proofs.Common.{◌≡◌, Bool, true, false, not, ◌&&◌, List, [], ◌∷◌, Option, Some, None, Result, Ok, Err, refl, sym, ap, ◌∙◌}
+use Rattle.std.proofs.Common.{◌≡◌, Bool, true, false, not, ◌&&◌, [], ◌∷◌, Option, Some, None, Ok, refl, sym, ◌∙◌}
 use Rattle.std.specs.Prelude.{is_none}
 use Rattle.std.specs.List.{list_all}
 use Rattle.std.specs.Option.{option_or}
@@ -10,7 +10,7 @@ use Rattle.dm_schema.specs.NameOrder.{columns_in_order, uniques_in_order}
 use Rattle.dm_table.specs.declared.op.RowOp.{RowOp}
 use Rattle.dm_table.specs.declared.fault.TableFault.{TableFault}
 use Rattle.dm_table.specs.declared.fault.TableFault.TheVariants as fault
-use Rattle.dm_table.specs.Contents.{Row, RowMap}
+use Rattle.dm_table.specs.Contents.{RowMap}
 use Rattle.dm_table.specs.Operations.{refusals, effect, applied, names_in_order, columns_of, left_row, is_unfit, needs_row, needs_room, old_row, is_unique_taken}
 use Rattle.dm_table.specs.Judging.{unknown_refusals, unfit_refusals, missing_refusals, primary_refusals, unique_refusals}
 use Rattle.dm_table.proofs.Refusing.{in_parts, refusals_in_parts}

@@ -1,5 +1,5 @@
 -- An operation leaves each row alone that it can't meet.
-use Rattle.std.proofs.Common.{◌≡◌, Bool, true, false, cond, ◌||◌, Option, Some, None, Result, Ok, refl, sym, ap, ◌∙◌}
+use Rattle.std.proofs.Common.{◌≡◌, false, Some, None, Ok, sym, ap, ◌∙◌}
 use Rattle.std.specs.FinMap as fin
 use Rattle.std.specs.FinMap.{get-insert, get-remove}
 use Rattle.std.specs.Option.{option_map_or}
@@ -9,7 +9,6 @@ use Rattle.dm_schema.specs.Layout.{Layout}
 use Rattle.dm_schema.specs.Rows.{key_of}
 use Rattle.dm_table.specs.declared.op.RowOp.{RowOp}
 use Rattle.dm_table.specs.declared.op.RowOp.TheVariants as op
-use Rattle.dm_table.specs.declared.fault.TableFault.{TableFault}
 use Rattle.dm_table.specs.Contents.{Row, RowMap, same_row, share_unique}
 use Rattle.dm_table.specs.Operations.{effect, applied, left_row, without_sharing}
 use Rattle.dm_table.specs.Meeting.{meets}

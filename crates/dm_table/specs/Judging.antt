@@ -1,9 +1,5 @@
 -- The parts of an operation's and of an alteration's refusals, each over a list in its order.
-use Rattle.std.specs.Prelude.{Bool, true, false, not, ◌&&◌, ◌||◌, List, [], ◌∷◌, map, Option, Some, None, Result, is_none}
-use Rattle.std.specs.List.{list_any}
-use Rattle.std.specs.Option.{option_map_or}
-use Rattle.std.specs.FinMap as fin
-use Rattle.dm_value.specs.declared.value.Value.{Value}
+use Rattle.std.specs.Prelude.{Bool, true, false, not, ◌&&◌, List, [], ◌∷◌, map, Result, is_none}
 use Rattle.dm_schema.specs.declared.column.Column.{Column}
 use Rattle.dm_schema.specs.declared.column.UniqueKey.{UniqueKey}
 use Rattle.dm_schema.specs.Layout.{Layout}
@@ -15,7 +11,7 @@ use Rattle.dm_table.specs.declared.fault.TableFault.TheVariants as fault
 use Rattle.dm_table.specs.Contents.{Row, RowMap}
 use Rattle.dm_list.specs.Answer.{first_refusal, unless_refused}
 use Rattle.dm_table.specs.Alterations.{alter_refusals, reshaped, is_unfit_column, is_shared}
-use Rattle.dm_table.specs.Operations.{is_unfit, needs_row, needs_room, old_row, left_row, is_primary_taken, is_unique_taken}
+use Rattle.dm_table.specs.Operations.{is_unfit, needs_row, needs_room, old_row, is_primary_taken, is_unique_taken}
 
 -- memory is wanting
 abbrev pub is_memory : TableFault → Bool

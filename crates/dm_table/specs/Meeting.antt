@@ -1,5 +1,5 @@
 -- Which rows an operation can meet.
-use Rattle.std.specs.Prelude.{Bool, false, ◌||◌, ◌++◌}
+use Rattle.std.specs.Prelude.{Bool, false, ◌||◌}
 use Rattle.std.specs.Option.{option_map_or}
 use Rattle.std.specs.FinMap as fin
 use Rattle.dm_schema.specs.Layout.{Layout}

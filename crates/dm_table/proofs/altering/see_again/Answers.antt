@@ -1,4 +1,4 @@
-use Rattle.std.proofs.Common.{◌≡◌, Bool, not, List, ap, sym, ◌∙◌}
+use Rattle.std.proofs.Common.{◌≡◌, not, List, ap, sym, ◌∙◌}
 use Rattle.std.specs.List.{list_any}
 use Rattle.std.proofs.lemmas.Result.{IfOk-weaker}
 use Rattle.dm_schema.specs.Kinds.{is_null}

@@ -1,4 +1,4 @@
-use Rattle.std.proofs.Common.{◌&&◌, sym, ap, ◌∙◌}
+use Rattle.std.proofs.Common.{◌&&◌, sym}
 use Rattle.std.proofs.lemmas.Bool.{and_from}
 use Rattle.dm_schema.specs.Keys.{key_number}
 use Rattle.dm_table.specs.declared.fault.TableFault.TheVariants as fault

@@ -3,7 +3,7 @@ use Rattle.std.specs.List.{filter}
 use Rattle.std.specs.FinMap as fin
 use Rattle.std.proofs.lemmas.Map.Made.{filter_same_pairs}
 use Rattle.dm_value.specs.Order.{row_cmp}
-use Rattle.dm_table.specs.Contents.{Row, RowMap, same_row, share_unique}
+use Rattle.dm_table.specs.Contents.{Row, same_row, share_unique}
 use Rattle.dm_table.proofs.Entries.{entries_keyed}
 use Rattle.dm_table.proofs.keyed.KeyedRows.remove_sharing.Goals as goal
 
