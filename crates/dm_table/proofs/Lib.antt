@@ -1,0 +1,15 @@
+pub mod Entries
+pub mod Agreeing
+pub mod ListTests
+pub mod Refusing
+pub mod Formed
+pub mod InTurn
+pub mod AlterRefusals
+pub mod Taken
+pub mod Filtered
+pub mod Untouched
+pub mod CellLaws
+pub mod Followed
+pub mod KeptRows
+pub mod KeptAltered
+pub mod SeenAgain
