@@ -1,5 +1,4 @@
 ghost use Rattle.std.specs.Prelude.{◌≡◌, ◌<◌, ◌^◌, length, position, IfSome, IsTrue};
-ghost use Rattle.dm_schema.specs.Names.{same_name};
 ghost use Rattle.dm_track.specs.Builds.{Inputs, is_table, table_of};
 ghost use Rattle.dm_track.specs.Changes.{are_kept};
 
