@@ -1,5 +1,5 @@
 -- Each shard of a task has one history, whose schemas follow from one another; and all have not too much together.
-use Rattle.std.proofs.Common.{◌≡◌, ℕ, ◌+◌, ◌<◌, ◌≤◌, Bool, true, false, cond, ltb, List, [], ◌∷◌, ◌++◌, map, length, Option, Some, None, Result, Ok, Err, refl, sym, ap, ◌∙◌, subst, arith}
+use Rattle.std.proofs.Common.{◌≡◌, ℕ, ◌+◌, ◌≤◌, Bool, true, false, cond, ltb, List, [], ◌∷◌, ◌++◌, length, Option, Some, None, Result, Ok, Err, refl, sym, subst, arith}
 use Rattle.std.specs.List.{cons_option, filter_map, flat_map}
 use Rattle.std.proofs.lemmas.Bool.Decides.{nat_tests}
 use Rattle.dm_schema.specs.Layout.{Layout}
@@ -21,7 +21,7 @@ use Rattle.dm_walk.proofs.Laws.{AreFollowing as FollowInWalk, schemas_follow}
 use Rattle.dm_track.specs.declared.fault.BuildFault.{BuildFault}
 use Rattle.dm_track.specs.declared.fault.BuildFault.TheVariants as fault
 use Rattle.dm_track.specs.Histories.{History}
-use Rattle.dm_track.specs.Builds.{Readings, all_of, histories_from, histories_of, history_by, history_with, items_in, limited, most_items, most_values, source_histories, source_log, table_histories, values_in, with_history, with_table, within_limits}
+use Rattle.dm_track.specs.Builds.{Readings, all_of, histories_from, histories_of, history_by, history_with, items_in, limited, most_items, most_values, source_histories, source_log, table_histories, values_in, with_history, with_table}
 use Rattle.dm_track.specs.Laws.{AreFew, AreFollowing, AreOf, IsOf}
 use Rattle.dm_track.proofs.Firsts.{walked_first}
 

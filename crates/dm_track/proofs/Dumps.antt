@@ -1,7 +1,7 @@
 -- The rows that a history begins with can be read again, by the orders that its history keeps.
-use Rattle.std.proofs.Common.{◌≡◌, ℕ, zero, suc, ◌+◌, ◌<◌, ◌≤◌, Bool, true, false, cond, nat_eq, ◌&&◌, ◌==◌, List, [], ◌∷◌, ◌++◌, map, length, Option, Some, None, is_some, Result, Ok, Err, refl, sym, ap, ◌∙◌, subst, arith}
-use Rattle.std.specs.List.{list_all, flat_map, find}
-use Rattle.std.specs.Option.{option_map, option_map_or}
+use Rattle.std.proofs.Common.{◌≡◌, ℕ, ◌+◌, ◌<◌, true, false, nat_eq, List, [], ◌∷◌, map, Option, Some, None, is_some, Result, Ok, Err, refl, subst, arith}
+use Rattle.std.specs.List.{list_all, flat_map}
+use Rattle.std.specs.Option.{option_map}
 use Rattle.std.proofs.lemmas.Bool.{and_parts}
 use Rattle.std.proofs.lemmas.Bool.Decides.{nat_tests}
 use Rattle.std.proofs.lemmas.List.Folds.{list_all-append}
@@ -22,7 +22,6 @@ use Rattle.dm_snapshot.specs.declared.snapshot.RowsFile.{RowsFile}
 use Rattle.dm_snapshot.specs.declared.snapshot.Snapshot.{Snapshot}
 use Rattle.dm_snapshot.specs.declared.snapshot.SnapshotFault.{SnapshotFault}
 use Rattle.dm_snapshot.specs.Snapshots.{DumpReadings, inserts_in, is_readable as are_read, rows_from, schema_in, snapshot_by, snapshot_of, with_rows, with_schema}
-use Rattle.dm_walk.specs.declared.item.Item.{Item}
 use Rattle.dm_walk.specs.Walks.{dumped_item, dumped_items}
 use Rattle.dm_track.specs.declared.history.FileOrders.{FileOrders}
 use Rattle.dm_track.specs.Builds.{file_orders}

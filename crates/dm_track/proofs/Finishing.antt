@@ -1,5 +1,5 @@
 -- The histories of a source are its beginnings, each walked on.
-use Rattle.std.proofs.Common.{◌≡◌, ℕ, ◌+◌, Bool, true, false, List, [], ◌∷◌, map, length, Option, Some, None, Result, Ok, Err, refl, sym, ap, ◌∙◌, subst}
+use Rattle.std.proofs.Common.{◌≡◌, ℕ, ◌+◌, Bool, true, false, List, [], ◌∷◌, map, length, Option, Some, None, Result, Ok, Err, refl, sym, ap, ◌∙◌}
 use Rattle.std.specs.Prelude.{⊤, MatchBool}
 use Rattle.std.specs.List.{range_with_len, zip}
 use Rattle.dm_list.specs.Answer.{Answers}

@@ -8,3 +8,4 @@ pub mod Readings
 pub mod TableLemmas
 pub mod Parts
 pub mod BuildLaws
+pub mod Counts

@@ -2,7 +2,6 @@
 use Rattle.std.proofs.Common.{◌≡◌, ℕ, suc, ◌+◌, ◌-◌, ◌<◌, List, [], ◌∷◌, ◌++◌, map, refl, ap, ◌∙◌, subst, append_assoc, arith}
 use Rattle.std.specs.List.{range_with_len}
 use Rattle.dm_files.specs.declared.files.NamedFile.{NamedFile}
-use Rattle.dm_files.specs.Files.{bytes_of}
 use Rattle.dm_stream.specs.declared.event.LogFile as program_file
 use Rattle.dm_stream.specs.Logs.{LogFile}
 use Rattle.dm_stream.specs.Views.{seen_file}

@@ -1,5 +1,5 @@
 -- Each row of a history that was walked from a readable beginning can be read again.
-use Rattle.std.proofs.Common.{◌≡◌, ℕ, zero, suc, ◌+◌, ◌<◌, ◌≤◌, Bool, true, false, nat_eq, ◌&&◌, List, [], ◌∷◌, map, take, filter, length, Option, Some, None, is_some, option_and_then, unwrap_or, Result, Ok, Err, refl, sym, ap, ◌∙◌, subst, arith}
+use Rattle.std.proofs.Common.{◌≡◌, ℕ, zero, suc, ◌+◌, ◌<◌, ◌≤◌, Bool, true, false, nat_eq, List, [], ◌∷◌, map, take, filter, length, Option, Some, None, is_some, option_and_then, unwrap_or, Result, Ok, Err, refl, sym, ap, ◌∙◌, subst, arith}
 use Rattle.std.specs.Prelude.{slice_get, slice_range}
 use Rattle.std.specs.List.{list_all, range_with_len}
 use Rattle.std.proofs.lemmas.Bool.{and_parts}
@@ -14,23 +14,22 @@ use Rattle.dm_decode.specs.Rows.{row_of}
 use Rattle.dm_files.specs.declared.files.NamedFile.{NamedFile}
 use Rattle.dm_files.specs.Files.{are_short, bytes_of}
 use Rattle.dm_route.specs.declared.rules.Rules.{Rules}
-use Rattle.dm_stream.specs.Logs.{LogFile, Log, log_of}
+use Rattle.dm_stream.specs.Logs.{log_of}
 use Rattle.dm_stream.specs.Sayings.{Heads}
 use Rattle.dm_walk.specs.declared.item.Place.{Place}
 use Rattle.dm_walk.specs.declared.item.PlaceKind.{PlaceKind}
 use Rattle.dm_walk.specs.declared.item.PlaceKind.TheVariants as place
 use Rattle.dm_walk.specs.declared.item.Item.{Item}
 use Rattle.dm_walk.specs.declared.item.Item.TheVariants as item
-use Rattle.dm_walk.specs.declared.track.Track.{Track}
 use Rattle.dm_walk.specs.Changes.{change_in, end_of, logged_change, map_at}
-use Rattle.dm_walk.specs.Walks.{Statements, walked}
-use Rattle.dm_walk.proofs.Laws.{AreRead, AreRows, AreFiles, Agrees, Every, IsRead, IsSound, log_sound, rows_are, rows_read}
+use Rattle.dm_walk.specs.Walks.{Statements}
+use Rattle.dm_walk.proofs.Laws.{AreRead, AreRows, AreFiles, Agrees, log_sound, rows_are, rows_read}
 use Rattle.dm_track.specs.declared.beginning.Beginning.{Beginning}
 use Rattle.dm_track.specs.declared.history.FileOrders.{FileOrders}
 use Rattle.dm_track.specs.Histories.{History, is_ddl, item_of, schema_at}
 use Rattle.dm_track.specs.Changes.{all_read, are_kept, change_at, change_of, is_row, is_row_item, reads}
 use Rattle.dm_track.specs.Builds.{log_file}
-use Rattle.dm_track.specs.Steps.{are_none, finished, history_of, is_readable, reads_by}
+use Rattle.dm_track.specs.Steps.{are_none, history_of, is_readable, reads_by}
 
 abbrev reads_at : List NamedFile → List FileOrders → Place → Layout → Bool
 reads_at files orders p layout = is_some (change_at files orders p layout)

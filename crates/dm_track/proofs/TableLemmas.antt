@@ -1,5 +1,5 @@
 -- The beginning of one table more.
-use Rattle.std.proofs.Common.{◌≡◌, ℕ, ◌+◌, List, [], ◌∷◌, ◌++◌, length, Option, Some, None, Result, Ok, Err, refl, ap, ◌∙◌, append_assoc}
+use Rattle.std.proofs.Common.{◌≡◌, ℕ, ◌+◌, List, [], ◌∷◌, ◌++◌, length, Option, Some, Result, Ok, Err, refl, ap, ◌∙◌, append_assoc}
 use Rattle.dm_schema.specs.Names.{Text}
 use Rattle.dm_route.specs.declared.rules.Rules.{Rules}
 use Rattle.dm_task.specs.declared.task.SourceTable.{SourceTable}

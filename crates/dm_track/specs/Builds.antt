@@ -1,5 +1,5 @@
 -- The histories of a task's shards, over its files.
-use Rattle.std.specs.Prelude.{ℕ, ◌+◌, Bool, true, false, ◌&&◌, ◌^◌, nat_lt, position, option_and_then, List, [], ◌∷◌, ◌++◌, length, slice_get, sum, map, Option, Some, None, Result, Ok, Err, if◌then◌else◌}
+use Rattle.std.specs.Prelude.{ℕ, ◌+◌, Bool, true, false, ◌&&◌, nat_lt, position, option_and_then, List, [], ◌∷◌, ◌++◌, length, slice_get, sum, map, Option, Some, None, Result, Ok, Err, if◌then◌else◌}
 use Rattle.std.specs.Option.{option_map, option_map_or}
 use Rattle.std.specs.List.{range_with_len}
 use Rattle.dm_schema.specs.Names.{Text, same_name}
@@ -158,13 +158,9 @@ pub record Inputs : Type 0 where
 abbrev pub is_table : TableName → TableName → Bool
 is_table target table = same_name table.db target.db && same_name table.table target.table
 
--- numbers of tables have 32 bits
-abbrev pub as_number : Option ℕ → Option ℕ
-as_number place = option_and_then (λ n. if nat_lt n (2 ^ 32) then Some n else None) place
-
 -- the number of a shard's target among the tables
 abbrev pub table_of : Inputs → ℕ → Option ℕ
-table_of inputs shard = option_and_then (λ h. as_number (position (is_table h.target) inputs.tables)) (slice_get inputs.histories shard)
+table_of inputs shard = option_and_then (λ h. position (is_table h.target) inputs.tables) (slice_get inputs.histories shard)
 
 abbrev pub inputs_with : Task → List NamedFile → Result (List History) BuildFault → Result Inputs BuildFault
 inputs_with task files (Err f) = Err f

@@ -1,7 +1,7 @@
 //! The histories of a task's shards, each source read beside the others.
 
-ghost use Rattle.std.specs.Prelude.{◌≡◌, ℕ, ◌<◌, ◌≤◌, ◌^◌, ◌-◌, List, Result, length, map, min, slice_index_or, take, All, IfOk, IsTrue};
-ghost use Rattle.std.specs.List.{flat_map, list_all};
+ghost use Rattle.std.specs.Prelude.{◌≡◌, ℕ, ◌<◌, ◌≤◌, ◌^◌, ◌-◌, List, Result, length, map, min, slice_index_or, take, IfOk, IsTrue};
+ghost use Rattle.std.specs.List.{flat_map};
 ghost use Rattle.dm_list.specs.Answer.{Answers};
 ghost use Rattle.dm_files.specs.Files.{are_files, are_short, files_of, source_files};
 ghost use Rattle.dm_track.specs.declared.fault.BuildFault.{BuildFault};

@@ -1,6 +1,6 @@
 //! The change of a row that an item stands for, read again from its place.
 
-ghost use Rattle.std.specs.Prelude.{◌≡◌, ◌==◌, ◌+◌, ◌<◌, ◌≤◌, ◌^◌, Some, drop, length, nat_le, reverse, slice_get, slice_range, IfOk, IsTrue, MatchOption};
+ghost use Rattle.std.specs.Prelude.{◌≡◌, ◌==◌, ◌+◌, ◌<◌, ◌≤◌, ◌^◌, Some, drop, length, slice_get, slice_range, IfOk, IsTrue, MatchOption};
 ghost use Rattle.std.specs.List.{find};
 ghost use Rattle.std.specs.Option.{option_copied};
 ghost use Rattle.dm_binlog.specs.Framing.{event_size};

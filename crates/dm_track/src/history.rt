@@ -1,4 +1,4 @@
-ghost use Rattle.std.specs.Prelude.{◌≡◌, ◌≤◌, ◌++◌, ◌^◌, ◌-◌, min, Some, length, map, option_map, slice_get, IfOk};
+ghost use Rattle.std.specs.Prelude.{◌≡◌, ◌^◌, ◌-◌, min, Some, length, map, option_map, IfOk};
 ghost use Rattle.std.specs.Option.{option_copied};
 ghost use Rattle.dm_track.specs.Builds.{bad_of};
 ghost use Rattle.dm_track.specs.Histories.{ddl_numbers, ddls_before, item_of, schema_at, values_from, values_of};

@@ -1,6 +1,5 @@
-ghost use Rattle.std.specs.Prelude.{◌≡◌, ◌^◌, nat_lt, position, Some, None, IsTrue, if◌then◌else◌};
-ghost use Rattle.dm_schema.specs.Names.{same_name};
-ghost use Rattle.dm_track.specs.Builds.{Inputs, as_number, is_table, table_of};
+ghost use Rattle.std.specs.Prelude.{◌≡◌, ◌<◌, ◌^◌, length, position, IfSome, IsTrue};
+ghost use Rattle.dm_track.specs.Builds.{Inputs, is_table, table_of};
 ghost use Rattle.dm_track.specs.Changes.{are_kept};
 
 use crate::history::History;
@@ -9,9 +8,6 @@ use dm_list::Sequence;
 use dm_schema::TableName;
 use dm_task::Task;
 use std::marker::Model;
-
-/// Numbers of tables have 32 bits.
-const MOST_NUMBERS: usize = 0x1_0000_0000;
 
 /// What a run is given: the task, its files, the history of each shard, and the tables that they go to.
 #[derive(Debug, Drop)]
@@ -23,7 +19,7 @@ pub struct Inputs {
 }
 
 impl Model for Inputs {
-    ghost use Rattle.std.specs.Prelude.{IsTrue};
+    ghost use Rattle.std.specs.Prelude.{◌<◌, ◌^◌, length, IsTrue};
     ghost use Rattle.dm_track.specs.Builds as spec;
     ghost use Rattle.dm_track.specs.Changes.{are_kept};
 
@@ -31,7 +27,7 @@ impl Model for Inputs {
 
     ghost view = { λ i. record { task = i.task; files = i.files; histories = i.histories; tables = i.tables } };
 
-    ghost invariant = { λ i. IsTrue (are_kept i.files i.histories) };
+    ghost invariant = { λ i. IsTrue (are_kept i.files i.histories) × (length i.tables < 2 ^ 32) };
 
     ghost inverse = { λ i. record { task = i.task; files = i.files; histories = i.histories; tables = i.tables } };
 }
@@ -42,27 +38,20 @@ fn is_table(target: &TableName, table: &TableName) -> bool
     table.db == target.db && table.table == target.table
 }
 
-fn place_of(target: &TableName, tables: &[TableName]) -> Option<usize>
-    ensures { result ≡ position (is_table target.now) tables.now }
+fn position_of(target: &TableName, tables: &[TableName]) -> Option<usize>
+    ensures value { result ≡ position (is_table target.now) tables.now }
+    ensures within { IfSome result (λ place. place < length tables.now) }
 {
     tables.iter().position(|table| is_table(target, table))
 }
 
-fn narrow(place: usize) -> Option<u32>
-    ensures { result ≡ (if nat_lt place (2 ^ 32) then Some place else None) }
+/// The number of a table among others.
+fn number_of(target: &TableName, tables: &[TableName]) -> Option<u32>
+    requires { length tables.now < 2 ^ 32 }
+    ensures { result ≡ position (is_table target.now) tables.now }
 {
-    if place < MOST_NUMBERS {
-        Some(place as u32)
-    } else {
-        None
-    }
-}
-
-fn as_number(place: Option<usize>) -> Option<u32>
-    ensures { result ≡ as_number place }
-{
-    match place {
-        Some(place) => narrow(place),
+    match position_of(target, tables) {
+        Some(place) => Some(place as u32),
         None => None,
     }
 }
@@ -74,7 +63,8 @@ pub fn inputs_of(
     histories: Sequence<History>,
     tables: Sequence<TableName>,
 ) -> Inputs
-    requires { IsTrue (are_kept files histories) }
+    requires kept { IsTrue (are_kept files histories) }
+    requires tables { length tables < 2 ^ 32 }
     ensures { result ≡ record { task = task; files = files; histories = histories; tables = tables } }
 {
     Inputs {
@@ -119,7 +109,7 @@ impl Inputs {
         ensures { result ≡ table_of self.now shard }
     {
         match self.histories.get(u64::from(shard)) {
-            Some(history) => as_number(place_of(history.target(), self.tables.as_slice())),
+            Some(history) => number_of(history.target(), self.tables.as_slice()),
             None => None,
         }
     }

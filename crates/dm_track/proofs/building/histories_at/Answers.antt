@@ -1,4 +1,4 @@
-use Rattle.std.proofs.Common.{ap, ◌∙◌, map, arith}
+use Rattle.std.proofs.Common.{◌∙◌, arith}
 use Rattle.dm_track.proofs.Parts.{none_there, number_is, number_within, one_there}
 use Rattle.dm_track.proofs.building.histories_at.Goals as goal
 

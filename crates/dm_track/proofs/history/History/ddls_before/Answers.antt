@@ -1,4 +1,4 @@
-use Rattle.std.proofs.Common.{◌≡◌, ◌∙◌, ap, leb}
+use Rattle.std.proofs.Common.{◌∙◌, ap, leb}
 use Rattle.std.proofs.Common.{rules}
 use Rattle.std.proofs.lemmas.List.Sorted.{IsPartitionPoint-from_clause}
 use Rattle.dm_track.specs.Histories.{History, ddl_numbers}
