@@ -33,7 +33,7 @@ program=$crate/out/dm_bench
 copy_crates() {
     tar -C "$root" --exclude=out -cf - crates HANDLES | tar -C "$folder" -xf -
     cp -- "$root/crates.txt" "$folder/crates.txt"
-    echo "dm_bench: dm_base dm_list dm_value dm_schema dm_binlog dm_decode dm_encode dm_join" >>"$folder/crates.txt"
+    echo "dm_bench: dm_base dm_list dm_value dm_schema dm_binlog dm_decode dm_encode dm_join dm_task dm_files dm_track" >>"$folder/crates.txt"
 }
 
 # Old files go first, so that none is left that the repository doesn't have any more.
