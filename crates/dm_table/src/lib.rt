@@ -1,8 +1,21 @@
 //! A table in memory: its rows under their primary keys, and what operations and alterations leave of them.
 #![tactic(auto)]
 
+mod altering;
+mod applying;
+mod cells;
+mod effect;
 mod fault;
+mod judge;
+mod keyed;
+mod left;
 mod op;
+mod said;
+mod sharing;
+mod table;
+#[cfg(test)]
+mod tests;
 
 pub use fault::TableFault;
 pub use op::RowOp;
+pub use table::Table;
