@@ -1,8 +1,12 @@
 //! The downstream as calls that happen whole or not at all, and kinds of it that are kept in memory.
 #![tactic(auto)]
 
+mod blow;
 mod call;
+mod fuse;
 mod target;
 
+pub use blow::Blow;
 pub use call::{Call, Meta};
+pub use fuse::FuseTarget;
 pub use target::{Target, TargetError};
