@@ -1,1 +1,5 @@
 mod Blowing
+mod Changing
+mod Entries
+mod Orders
+mod Taking

@@ -1,3 +1,5 @@
 pub mod Contents
 pub mod Writing
 pub mod Fuses
+pub mod Maps
+pub mod Refusals

@@ -3,10 +3,16 @@
 
 mod blow;
 mod call;
+mod copies;
 mod fuse;
+mod memory;
+mod refusal;
+mod tables;
 mod target;
+mod texts;
 
 pub use blow::Blow;
 pub use call::{Call, Meta};
 pub use fuse::FuseTarget;
+pub use memory::MemoryTarget;
 pub use target::{Target, TargetError};
