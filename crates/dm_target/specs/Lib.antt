@@ -3,3 +3,4 @@ pub mod Writing
 pub mod Fuses
 pub mod Maps
 pub mod Refusals
+pub mod Reach
