@@ -10,6 +10,8 @@ mod reach;
 mod refusal;
 mod tables;
 mod target;
+#[cfg(test)]
+mod tests;
 mod texts;
 
 pub use blow::Blow;
