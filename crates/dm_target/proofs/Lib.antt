@@ -1,0 +1,6 @@
+mod Blowing
+mod Changing
+mod Entries
+pub mod Laws
+mod Orders
+mod Taking

@@ -1,0 +1,41 @@
+-- What a writing call leaves of a target, by its answer.
+use Rattle.std.specs.Prelude.{◌≡◌, ◌⊎◌, ⊤, Bool, List, [], ◌∷◌, ◌++◌, Option, Some, None, Result, Ok, Err, IsTrue}
+use Rattle.dm_table.specs.declared.fault.TableFault.{TableFault}
+use Rattle.dm_target.specs.declared.call.Call.{Call}
+use Rattle.dm_target.specs.declared.target.TargetError.{TargetError}
+use Rattle.dm_target.specs.declared.target.TargetError.TheVariants as error
+use Rattle.dm_target.specs.Contents.{Content, effect}
+
+-- the call has an effect, which is the content now
+abbrev pub Takes : Call → Content → Option Content → Type 0
+Takes call before now = (left : Content) × (effect call before ≡ Ok left) × (now ≡ Some left)
+
+-- A call happens whole or not at all: what the content is now, where it was told before.
+abbrev pub Writes : Call → (Call → Bool) → Option Content → Option Content → Result (Unit {0}) TargetError → Type 0
+Writes call full None now answer = now ≡ None
+Writes call full (Some before) now (Ok _) = Takes call before now
+Writes call full (Some before) now (Err (error.Rejected fault)) = (effect call before ≡ Err fault) × (now ≡ Some before)
+Writes call full (Some before) now (Err error.Failed) = (now ≡ Some before) ⊎ Takes call before now
+Writes call full (Some before) now (Err error.Full) = ((left : Content) × (effect call before ≡ Ok left)) × IsTrue (full call) × (now ≡ Some before)
+Writes call full (Some before) now (Err error.Memory) = now ≡ Some before
+
+-- the call stands behind the others
+abbrev pub AddsCall : Call → List Call → Option (List Call) → Type 0
+AddsCall call before now = now ≡ Some (before ++ call ∷ [])
+
+-- The list of the calls that took effect grows with the content.
+abbrev pub Grows : Call → Option (List Call) → Option (List Call) → Result (Unit {0}) TargetError → Type 0
+Grows call None now answer = now ≡ None
+Grows call (Some before) now (Ok _) = AddsCall call before now
+Grows call (Some before) now (Err (error.Rejected fault)) = now ≡ Some before
+Grows call (Some before) now (Err error.Failed) = (now ≡ Some before) ⊎ AddsCall call before now
+Grows call (Some before) now (Err error.Full) = now ≡ Some before
+Grows call (Some before) now (Err error.Memory) = now ≡ Some before
+
+-- the call didn't fail
+abbrev pub NotFailed : Result (Unit {0}) TargetError → Type 0
+NotFailed (Ok _) = ⊤
+NotFailed (Err (error.Rejected fault)) = ⊤
+NotFailed (Err error.Failed) = ⊥
+NotFailed (Err error.Full) = ⊤
+NotFailed (Err error.Memory) = ⊤

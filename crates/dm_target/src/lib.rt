@@ -1,0 +1,21 @@
+//! The downstream as calls that happen whole or not at all, and kinds of it that are kept in memory.
+#![tactic(auto)]
+
+mod blow;
+mod call;
+mod copies;
+mod fuse;
+mod memory;
+mod reach;
+mod refusal;
+mod tables;
+mod target;
+#[cfg(test)]
+mod tests;
+mod texts;
+
+pub use blow::Blow;
+pub use call::{Call, Meta};
+pub use fuse::FuseTarget;
+pub use memory::MemoryTarget;
+pub use target::{Target, TargetError};
