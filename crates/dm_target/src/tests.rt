@@ -61,7 +61,7 @@ fn table_name(alloc: Global) -> Result<TableName, AllocError> {
     })
 }
 
-fn column(alloc: Global, text: &str, default_rule: DefaultRule) -> Result<Column, AllocError>
+fn column(alloc: Global, text: &str) -> Result<Column, AllocError>
     requires { IsTrue (is_folded text.now) }
     ensures { IfOk result (λ column. IsTrue (is_column column)) }
 {
@@ -69,19 +69,30 @@ fn column(alloc: Global, text: &str, default_rule: DefaultRule) -> Result<Column
         name: name(alloc, text)?,
         kind: Kind::Signed(8),
         nullable: false,
-        default_rule,
+        default_rule: DefaultRule::Nothing,
+    })
+}
+
+/// `u` INT DEFAULT 5.
+fn second_column(alloc: Global) -> Result<Column, AllocError>
+    ensures { IfOk result (λ column. IsTrue (is_column column)) }
+{
+    Ok(Column {
+        name: name(alloc, "u")?,
+        kind: Kind::Signed(4),
+        nullable: true,
+        default_rule: DefaultRule::Const(Value::Int(5)),
     })
 }
 
 fn columns(alloc: Global, is_wide: bool) -> Result<Vec<Column>, AllocError>
     ensures { IfOk result (λ columns. IsTrue (list_all is_column columns.items)) }
 {
-    let id = column(alloc, "id", DefaultRule::Nothing)?;
+    let id = column(alloc, "id")?;
     if !is_wide {
         return Ok(vec![in alloc; id]?);
     }
-    let u = column(alloc, "u", DefaultRule::Const(Value::Int(5)))?;
-    Ok(vec![in alloc; id, u]?)
+    Ok(vec![in alloc; id, second_column(alloc)?]?)
 }
 
 fn schema(alloc: Global, is_wide: bool) -> Result<Schema, Fail> {
