@@ -1,5 +1,5 @@
 -- A target behind a fuse is sound while the fuse has not blown and the inner target is sound.
-use Rattle.std.proofs.Common.{◌≡◌, Bool, true, false, not, ◌&&◌, ap, sym, subst, ◌∙◌}
+use Rattle.std.proofs.Common.{◌≡◌, Bool, true, false, not, ◌&&◌, sym, subst}
 use Rattle.std.specs.Prelude.{IsTrue, ◌↔◌}
 
 pub inner_sound : (blown sound : Bool) → IsTrue (not blown && sound) → IsTrue sound

@@ -1,8 +1,7 @@
 -- A change of one table of a program's map, as one of the finite map.
-use Rattle.std.proofs.Common.{◌≡◌, Bool, true, false, List, Option, Some, None, Result, Ok, Err, refl, sym, ap, subst, ◌∙◌}
+use Rattle.std.proofs.Common.{◌≡◌, true, false, List, Option, Some, None, Result, Ok, Err, refl, sym, ap, subst, ◌∙◌}
 use Rattle.std.specs.Prelude.{⊤, IfOk, IfErr, MatchBool, is_some}
 use Rattle.std.specs.BTreeMap.{BTreeMap, UpdatesBy, WritesThrough, get, is_at}
-use Rattle.std.specs.Map.{set_value}
 use Rattle.std.specs.FinMap as fin
 use Rattle.std.proofs.lemmas.Map.Steps.{set_value_same}
 use Rattle.dm_schema.specs.declared.table_name.TableName.{TableName}

@@ -4,7 +4,6 @@ use Rattle.std.specs.Cmp.{IsTotalOrder}
 use Rattle.std.specs.Cmp.Lexicographic.{nat_list_cmp_total}
 use Rattle.std.specs.FinMap.{IsAntisymmetric}
 use Rattle.std.proofs.lemmas.Map.Lookups.{exact_bytes, exact_pairs}
-use Rattle.dm_schema.specs.declared.table_name.TableName.{TableName}
 use Rattle.dm_schema.specs.contracts.table_name.TableNameOrd.TheImpl.Laws.{total-law}
 use Rattle.dm_schema.specs.Names.{Text, name_cmp}
 use Rattle.dm_target.specs.Contents.{table_name_cmp}

@@ -8,7 +8,6 @@ use Rattle.dm_schema.specs.contracts.table_name.TableNameOrd.TheImpl as table_na
 use Rattle.dm_schema.specs.Layout.{Layout}
 use Rattle.dm_schema.specs.Names.{Text, name_cmp}
 use Rattle.std.specs.declared.cmp.Ordering.{Ordering}
-use Rattle.dm_table.specs.declared.op.RowOp.{RowOp}
 use Rattle.dm_table.specs.declared.fault.TableFault.{TableFault}
 use Rattle.dm_table.specs.declared.fault.TableFault.TheVariants as fault
 use Rattle.dm_table.specs.Contents.{TableContent, new_table}

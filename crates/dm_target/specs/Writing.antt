@@ -1,6 +1,5 @@
 -- What a writing call leaves of a target, by its answer.
 use Rattle.std.specs.Prelude.{◌≡◌, ◌⊎◌, ⊤, Bool, List, [], ◌∷◌, ◌++◌, Option, Some, None, Result, Ok, Err, IsTrue}
-use Rattle.dm_table.specs.declared.fault.TableFault.{TableFault}
 use Rattle.dm_target.specs.declared.call.Call.{Call}
 use Rattle.dm_target.specs.declared.target.TargetError.{TargetError}
 use Rattle.dm_target.specs.declared.target.TargetError.TheVariants as error

@@ -1,8 +1,6 @@
-use Rattle.std.proofs.Common.{◌≡◌, Err, List, ap, sym, subst, ◌∙◌}
+use Rattle.std.proofs.Common.{◌≡◌, Err, ap, sym, subst, ◌∙◌}
 use Rattle.std.specs.FinMap as fin
-use Rattle.dm_schema.specs.declared.table_name.TableName.{TableName}
 use Rattle.dm_table.specs.declared.fault.TableFault.TheVariants as fault
-use Rattle.dm_table.specs.Contents.{TableContent}
 use Rattle.dm_table.specs.Operations.{table_applied}
 use Rattle.dm_target.specs.Contents.{if_there}
 use Rattle.dm_target.specs.Maps.{TableMap, Changes}
