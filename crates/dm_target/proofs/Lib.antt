@@ -4,3 +4,4 @@ mod Entries
 pub mod Laws
 mod Orders
 mod Taking
+pub mod Ordering

@@ -6,6 +6,7 @@ mod call;
 mod copies;
 mod fuse;
 mod memory;
+mod ordered;
 mod reach;
 mod refusal;
 mod tables;
