@@ -1,0 +1,107 @@
+-- Laws of folds: a fold has the schema at its position, an item is carried out on the fold before it, and an item leaves the
+-- rows whose keys it doesn't touch.
+use Rattle.std.proofs.Common.{◌≡◌, ℕ, zero, suc, ◌+◌, ◌<◌, Bool, true, false, List, ◌∷◌, length, take, Option, Some, None, Result, Ok, Err, refl, sym, ap, subst, ◌∙◌, arith}
+use Rattle.std.specs.Prelude.{IsTrue, option_and_then, slice_get, unwrap_or, get_or}
+use Rattle.std.specs.List.{filter}
+use Rattle.std.specs.FinMap as fin
+use Rattle.std.proofs.lemmas.Option.{get_or_from_slice_get, slice_get_within}
+use Rattle.dm_list.specs.Answer.{first_refusal}
+use Rattle.dm_schema.specs.Layout.{Layout}
+use Rattle.dm_schema.specs.Rows.{key_of}
+use Rattle.dm_schema.specs.Schemas.{is_formed}
+use Rattle.dm_schema.specs.declared.row_change.RowChange.{RowChange}
+use Rattle.dm_join.proofs.Lists.{skip_failing}
+use Rattle.dm_table.specs.Alterations.{alter_refusals, altered, reshaped}
+use Rattle.dm_table.specs.Contents.{Row, TableContent, new_table}
+use Rattle.dm_table.specs.declared.fault.TableFault.{TableFault}
+use Rattle.dm_table.proofs.Taken.{not_refused}
+use Rattle.dm_files.specs.declared.files.NamedFile.{NamedFile}
+use Rattle.dm_walk.specs.declared.item.Item.{Item}
+use Rattle.dm_walk.specs.declared.item.Item.TheVariants as item
+use Rattle.dm_walk.specs.declared.item.Place.{Place}
+use Rattle.dm_track.specs.Changes.{change_of}
+use Rattle.dm_track.specs.Histories.{History, ddls_before, is_ddl, item_of, schema_at}
+use Rattle.dm_fold.specs.declared.fault.FoldFault.{FoldFault}
+use Rattle.dm_fold.specs.declared.fault.FoldFault.TheVariants as fault
+use Rattle.dm_fold.specs.Folds.{and_item, changed, folded, unless_refused, with_item}
+use Rattle.dm_fold.specs.Touching.{is_whole, touches}
+use Rattle.dm_fold.proofs.ChangeLaws.{change_keeps_schema, change_leaves}
+use Rattle.dm_fold.proofs.Steps.{next, none_done}
+-- What a change leaves of a table.
+pub use Rattle.dm_fold.proofs.ChangeLaws.{change_keeps_schema, change_leaves, change_puts, change_takes}
+
+refused_or_not : (r : Result TableContent TableFault) (t : TableContent) → unless_refused r ≡ Some t → r ≡ Ok t
+refused_or_not (Ok table) t is = let same : table ≡ t = cc is in ap Ok same
+refused_or_not (Err f) t is = absurd (cc is)
+
+-- a table that was altered has that schema
+altered_has_schema : (table after : TableContent) (layout : Layout) → unless_refused (altered table layout) ≡ Some after → after.layout ≡ layout
+altered_has_schema table after layout is =
+    let made = refused_or_not (altered table layout) after is in
+    let same = (not_refused (first_refusal (alter_refusals table layout)) (record { layout = layout; rows = reshaped table.layout.columns layout.columns table.rows }) after made).1 in
+    ap (λ (t : TableContent). t.layout) (sym same)
+
+one_more : (n : ℕ) → suc n ≡ n + 1
+one_more n = omega arith
+
+module _ (files : List NamedFile) (h : History) where
+  row_keeps_schema : (n : ℕ) (place : Place) → slice_get h.items n ≡ Some (item.Row place) → schema_at h (suc n) ≡ schema_at h n
+  row_keeps_schema n place at =
+      let here : item.Row place ≡ get_or h.items n (item.Row place) = sym (get_or_from_slice_get h.items n (item.Row place) (item.Row place) at) in
+      let same = skip_failing is_ddl h.items (filter is_ddl (take n h.items)) n (item.Row place) (slice_get_within h.items n (item.Row place) at) here refl refl in
+      let counts : ddls_before n h.items ≡ ddls_before (suc n) h.items = ap length same ∙ ap (λ m. ddls_before m h.items) (sym (one_more n)) in
+      ap (λ k. unwrap_or (slice_get (h.first ∷ h.later) k) h.first) (sym counts)
+
+  -- an item is carried out on the fold before it
+  pub fold_steps : (n : ℕ) (before after : TableContent) → folded files h n ≡ Ok before → folded files h (suc n) ≡ Ok after → with_item files h (suc n) before ≡ Some after
+  fold_steps n before after first second = by (with_item files h (suc n) before) refl where
+    whole : and_item (suc n) (Ok before) (with_item files h (suc n)) ≡ Ok after
+    whole = ap (λ r. and_item (suc n) r (with_item files h (suc n))) (sym first) ∙ sym (next files h n) ∙ second
+
+    by : (o : Option TableContent) → with_item files h (suc n) before ≡ o → o ≡ Some after
+    by None is = let both : Err (fault.Conflict (suc n)) ≡ Ok after = rw (is) whole in absurd (cc both)
+    by (Some behind) is = let both : Ok behind ≡ Ok after = rw (is) whole in let same : behind ≡ after = cc both in ap Some same
+
+  -- the item of a row is the change that stands there
+  pub row_item_changes : (n : ℕ) (place : Place) (before after : TableContent) → item_of h n ≡ Some (item.Row place) → with_item files h n before ≡ Some after
+      → (c : RowChange) × (change_of files h n ≡ Some c) × (changed before c ≡ Some after)
+  row_item_changes n place before after at is = by (change_of files h n) refl where
+    here : option_and_then (changed before) (change_of files h n) ≡ Some after
+    here = rw (at) is
+
+    by : (o : Option RowChange) → change_of files h n ≡ o → (c : RowChange) × (change_of files h n ≡ Some c) × (changed before c ≡ Some after)
+    by None e = let none : None ≡ Some after = rw (e) here in absurd (cc none)
+    by (Some c) e = (c, e, rw (e) here)
+
+  item_has_schema : (n : ℕ) (before after : TableContent) → with_item files h (suc n) before ≡ Some after → before.layout ≡ schema_at h n → after.layout ≡ schema_at h (suc n)
+  item_has_schema n before after is had = by (item_of h (suc n)) refl where
+    by : (o : Option Item) → item_of h (suc n) ≡ o → after.layout ≡ schema_at h (suc n)
+    by None at = let none : None ≡ Some after = rw (at) is in absurd (cc none)
+    by (Some (item.Row place)) at =
+        let made = row_item_changes (suc n) place before after at is in
+        change_keeps_schema before after made.0 made.2 ∙ had ∙ sym (row_keeps_schema n place at)
+    by (Some (item.Ddl place)) at = altered_has_schema before after (schema_at h (suc n)) (rw (at) is)
+
+  -- a fold has the schema at its position
+  pub fold_has_schema : (n : ℕ) (table : TableContent) → folded files h n ≡ Ok table → table.layout ≡ schema_at h n
+  fold_has_schema zero table is =
+      let both : Ok (new_table (schema_at h 0)) ≡ Ok table = sym (none_done files h) ∙ is in
+      let same : new_table (schema_at h 0) ≡ table = cc both in
+      ap (λ (t : TableContent). t.layout) (sym same)
+  fold_has_schema (suc n) table is = by (folded files h n) refl (fold_has_schema n) where
+    by : (r : Result TableContent FoldFault) → folded files h n ≡ r → ((t : TableContent) → folded files h n ≡ Ok t → t.layout ≡ schema_at h n) → table.layout ≡ schema_at h (suc n)
+    by (Err f) e had =
+        let both : Err f ≡ Ok table = sym (next files h n ∙ ap (λ r. and_item (suc n) r (with_item files h (suc n))) e) ∙ is in
+        absurd (cc both)
+    by (Ok before) e had = item_has_schema n before table (fold_steps n before table e is) (had before e)
+
+  -- An item of a row leaves each row whose key it doesn't touch.
+  pub fold_leaves : (n : ℕ) (before after : TableContent) (place : Place) (c : RowChange) (key : Row) → folded files h n ≡ Ok before → folded files h (suc n) ≡ Ok after
+      → item_of h (suc n) ≡ Some (item.Row place) → change_of files h (suc n) ≡ Some c
+      → IsTrue (is_formed before.layout) → is_whole before.layout c ≡ true → touches before.layout c key ≡ false
+      → fin.get after.rows key ≡ fin.get before.rows key
+  fold_leaves n before after place c key first second at is formed whole apart =
+      let made = row_item_changes (suc n) place before after at (fold_steps n before after first second) in
+      let both : Some made.0 ≡ Some c = sym made.1 ∙ is in
+      let same : made.0 ≡ c = cc both in
+      change_leaves before after c key formed whole (subst (λ d. changed before d ≡ Some after) same made.2) apart
