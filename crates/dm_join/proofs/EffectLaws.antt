@@ -32,7 +32,7 @@ use Rattle.dm_join.proofs.AlterationLaws.{is_moved}
 -- What the steps leave.
 
 -- the layout after changes of which none is refused
-abbrev after : Reading → Layout → List Change → Layout
+abbrev pub after : Reading → Layout → List Change → Layout
 after read layout [] = layout
 after read layout (c ∷ cs) = after read (changed read layout c) cs
 
@@ -53,13 +53,13 @@ record Makes (make : Making) : Type 0 where
 made_err : (make : Making) (l : Layout) (e : SchemaFault) → make l.columns l.primary l.uniques ≡ Err e → made make l ≡ Err (effect_fault.Made e)
 made_err make l e h = rw h refl
 
-made_ok : (make : Making) (l m : Layout) → make l.columns l.primary l.uniques ≡ Ok m → made make l ≡ Ok m
+pub made_ok : (make : Making) (l m : Layout) → make l.columns l.primary l.uniques ≡ Ok m → made make l ≡ Ok m
 made_ok make l m h = rw h refl
 
 step_refused : (make : Making) (read : Reading) (before : List Change) (a : Layout) (c : Change) (e : EffectFault) → first_refusal (refusals_of read before a c) ≡ Some e → step make read before a c ≡ Err e
 step_refused make read before a c e h = rw h refl
 
-step_passed : (make : Making) (read : Reading) (before : List Change) (a : Layout) (c : Change) → first_refusal (refusals_of read before a c) ≡ None → step make read before a c ≡ made make (changed read a c)
+pub step_passed : (make : Making) (read : Reading) (before : List Change) (a : Layout) (c : Change) → first_refusal (refusals_of read before a c) ≡ None → step make read before a c ≡ made make (changed read a c)
 step_passed make read before a c h = rw h refl
 
 -- one step that isn't refused
@@ -118,11 +118,11 @@ joined_makes = record {
 -- What each group of changes does.
 
 -- a list without what has one of the names
-removed : {A B : Type 0} → (A → Text) → (B → Text) → List B → List A → List A
+unfoldable pub removed : {A B : Type 0} → (A → Text) → (B → Text) → List B → List A → List A
 removed name other [] xs = xs
 removed name other (b ∷ bs) xs = removed name other bs (filter (λ x. not (same_name (name x) (other b))) xs)
 
-from_removed : {A B : Type 0} (name : A → Text) (other : B → Text) (bs : List B) (xs : List A) (x : A) → IsIn x (removed name other bs xs) → IsIn x xs × ((b : B) → IsIn b bs → same_name (name x) (other b) ≡ false)
+pub from_removed : {A B : Type 0} (name : A → Text) (other : B → Text) (bs : List B) (xs : List A) (x : A) → IsIn x (removed name other bs xs) → IsIn x xs × ((b : B) → IsIn b bs → same_name (name x) (other b) ≡ false)
 unfolding removed
 from_removed name other [] xs x i = (i, λ b j. absurd j)
 from_removed {A} {B} name other (b ∷ bs) xs x i = by (from_removed name other bs (filter (λ y. not (same_name (name y) (other b))) xs) x i) where
@@ -135,7 +135,7 @@ from_removed {A} {B} name other (b ∷ bs) xs x i = by (from_removed name other 
     each c (inl is) = ap (λ d. same_name (name x) (other d)) (sym is) ∙ not-true (same_name (name x) (other b)) kept.1
     each c (inr j) = rest.1 c j
 
-in_removed : {A B : Type 0} (name : A → Text) (other : B → Text) (bs : List B) (xs : List A) (x : A) → IsIn x xs → ((b : B) → IsIn b bs → same_name (name x) (other b) ≡ false) → IsIn x (removed name other bs xs)
+pub in_removed : {A B : Type 0} (name : A → Text) (other : B → Text) (bs : List B) (xs : List A) (x : A) → IsIn x xs → ((b : B) → IsIn b bs → same_name (name x) (other b) ≡ false) → IsIn x (removed name other bs xs)
 unfolding removed
 in_removed name other [] xs x i h = i
 in_removed name other (b ∷ bs) xs x i h =
@@ -161,7 +161,7 @@ after_key_adds read [] l = ap (with_uniques l) (sym (append-nil l.uniques))
 after_key_adds read (k ∷ ks) l = after_key_adds read ks (with_uniques l (l.uniques ++ k ∷ [])) ∙ ap (with_uniques l) (append_assoc l.uniques (k ∷ []) ks)
 
 -- a column behind modifications
-moved_to : List Column → Column → Column
+unfoldable pub moved_to : List Column → Column → Column
 moved_to [] c = c
 moved_to (m ∷ ms) c = moved_to ms (cond (same_name c.name m.name) m c)
 
@@ -174,16 +174,17 @@ unfolding moved_to
 map_itself [] = refl
 map_itself (c ∷ cs) = ap (λ l. c ∷ l) (map_itself cs)
 
--- columns of the primary key that aren't nullable stay as they are written
-as_written : (l : Layout) (m : Column) → is_nullable_column l.primary m ≡ false → modified_column l m ≡ m
-as_written l m e = by (is_among l.primary m.name) refl where
-  among_alike : (names : List Text) → list_any (λ n. same_name m.name n) names ≡ list_any (λ n. same_name n m.name) names
-  among_alike [] = refl
-  among_alike (n ∷ ns) = ap (λ b. b || list_any (λ k. same_name m.name k) ns) (same_back m.name n) ∙ ap (λ b. same_name n m.name || b) (among_alike ns)
+-- whichever name is asked about the other
+pub among_alike : (name : Text) (names : List Text) → list_any (λ n. same_name name n) names ≡ is_among names name
+among_alike name [] = refl
+among_alike name (n ∷ ns) = ap (λ b. b || list_any (λ k. same_name name k) ns) (same_back name n) ∙ ap (λ b. same_name n name || b) (among_alike name ns)
 
+-- columns of the primary key that aren't nullable stay as they are written
+pub as_written : (l : Layout) (m : Column) → is_nullable_column l.primary m ≡ false → modified_column l m ≡ m
+as_written l m e = by (is_among l.primary m.name) refl where
   not_null : is_among l.primary m.name ≡ true → (m.nullable ≡ false) ⊎ (list_any (λ n. same_name m.name n) l.primary ≡ false) → m.nullable ≡ false
   not_null among (inl f) = f
-  not_null among (inr f) = absurd (both_ways _ f (among_alike l.primary ∙ among))
+  not_null among (inr f) = absurd (both_ways _ f (among_alike m.name l.primary ∙ among))
 
   by : (b : Bool) → is_among l.primary m.name ≡ b → cond b (record { name = m.name; kind = m.kind; nullable = false; default_rule = m.default_rule }) m ≡ m
   by false among = refl
@@ -224,14 +225,14 @@ moves (d ∷ ds) c m i e once = by (cases_Bool (same_name c.name d.name)) i (λ 
   by (inr other) (inr j) rest = ap (moved_to ds) (cond-false (same_name c.name d.name) d c other) ∙ rest j
 
 -- where names are apart, one name is one thing
-one_of_name : {A : Type 0} (name : A → Text) (xs : List A) (x y : A) → AreApart name xs → IsIn x xs → IsIn y xs → name x ≡ name y → x ≡ y
+pub one_of_name : {A : Type 0} (name : A → Text) (xs : List A) (x y : A) → AreApart name xs → IsIn x xs → IsIn y xs → name x ≡ name y → x ≡ y
 one_of_name name [] x y h i j e = absurd i
 one_of_name name (z ∷ zs) x y h (inl is) (inl js) e = sym is ∙ js
 one_of_name name (z ∷ zs) x y h (inl is) (inr j) e = absurd (true≢false (sym (same_from (name z) (name y) (ap name is ∙ e)) ∙ h.0 y j))
 one_of_name name (z ∷ zs) x y h (inr i) (inl js) e = absurd (true≢false (sym (same_from (name z) (name x) (ap name js ∙ sym e)) ∙ h.0 x i))
 one_of_name name (z ∷ zs) x y h (inr i) (inr j) e = one_of_name name zs x y h.1 i j e
 
-key_only : (here there : Layout) (k : UniqueKey) → IsIn k (keys_only_in here there) → IsIn k here.uniques × (list_any (same_unique k) there.uniques ≡ false)
+pub key_only : (here there : Layout) (k : UniqueKey) → IsIn k (keys_only_in here there) → IsIn k here.uniques × (list_any (same_unique k) there.uniques ≡ false)
 key_only here there k i =
     let f = from_filter (λ j. not (list_any (same_unique j) there.uniques)) here.uniques k (from_ordered unique_name (filter (λ j. not (list_any (same_unique j) there.uniques)) here.uniques) k i) in
     (f.0, not-true (list_any (same_unique k) there.uniques) f.1)
@@ -241,7 +242,7 @@ in_key_only here there k i e =
     in_ordered unique_name (filter (λ j. not (list_any (same_unique j) there.uniques)) here.uniques) k
     (in_filter (λ j. not (list_any (same_unique j) there.uniques)) here.uniques k i (not_from_false (list_any (same_unique k) there.uniques) e))
 
-column_only : (here there : Layout) (c : Column) → IsIn c (columns_only_in here there) → IsIn c here.columns × (has_column there.columns c.name ≡ false)
+pub column_only : (here there : Layout) (c : Column) → IsIn c (columns_only_in here there) → IsIn c here.columns × (has_column there.columns c.name ≡ false)
 column_only here there c i =
     let f = from_filter (λ d. not (has_column there.columns d.name)) here.columns c (from_ordered column_name (filter (λ d. not (has_column there.columns d.name)) here.columns) c i) in
     (f.0, not-true (has_column there.columns c.name) f.1)
@@ -251,11 +252,35 @@ in_column_only here there c i e =
     in_ordered column_name (filter (λ d. not (has_column there.columns d.name)) here.columns) c
     (in_filter (λ d. not (has_column there.columns d.name)) here.columns c i (not_from_false (has_column there.columns c.name) e))
 
-moved_only : (old new : Layout) (c : Column) → IsIn c (columns_moved old new) → IsIn c new.columns × (is_moved old c ≡ true)
+pub moved_only : (old new : Layout) (c : Column) → IsIn c (columns_moved old new) → IsIn c new.columns × (is_moved old c ≡ true)
 moved_only old new c i = from_filter (is_moved old) new.columns c (from_ordered column_name (filter (is_moved old) new.columns) c i)
 
 in_moved : (old new : Layout) (c : Column) → IsIn c new.columns → is_moved old c ≡ true → IsIn c (columns_moved old new)
 in_moved old new c i e = in_ordered column_name (filter (is_moved old) new.columns) c (in_filter (is_moved old) new.columns c i e)
+
+-- what the new schema has of the old one: the columns whose names it has, and the keys
+abbrev pub kept_columns : Layout → Layout → List Column
+kept_columns old new = removed column_name column_name (columns_only_in old new) old.columns
+
+abbrev pub kept_keys : Layout → Layout → List UniqueKey
+kept_keys old new = removed unique_name unique_name (keys_only_in old new) old.uniques
+
+-- those columns as they are behind the modifications
+abbrev pub modified_columns : Layout → Layout → List Column
+modified_columns old new = map (moved_to (columns_moved old new)) (kept_columns old new)
+
+-- an alteration's changes up to the end of each group but the last
+abbrev pub key_drops : Layout → Layout → List Change
+key_drops old new = map (λ k. change.DropKey k.name) (keys_only_in old new)
+
+abbrev pub to_drops : Layout → Layout → List Change
+to_drops old new = key_drops old new ++ map (λ c. change.Drop c.name) (columns_only_in old new)
+
+abbrev pub to_modifies : Layout → Layout → List Change
+to_modifies old new = to_drops old new ++ map (λ c. change.Modify c spot.Keep c.nullable) (columns_moved old new)
+
+abbrev pub to_adds : Layout → Layout → List Change
+to_adds old new = to_modifies old new ++ map (λ c. change.Add c spot.Last) (columns_only_in new old)
 
 module _ (read : Reading) (old new : Layout) (old_formed : is_formed old ≡ true) (new_formed : is_formed new ≡ true) (primary : old.primary ≡ new.primary) where
   of_old : Formed old
@@ -270,51 +295,42 @@ module _ (read : Reading) (old new : Layout) (old_formed : is_formed old ≡ tru
   new_apart : Apart new
   new_apart = record { columns = apart_from column_name new.columns of_new.columns_apart; keys = apart_from unique_name new.uniques of_new.keys_apart }
 
-  abbrev kept_columns : List Column
-  kept_columns = removed column_name column_name (columns_only_in old new) old.columns
-
-  abbrev kept_keys : List UniqueKey
-  kept_keys = removed unique_name unique_name (keys_only_in old new) old.uniques
-
   abbrev ms : List Column
   ms = columns_moved old new
 
   abbrev final : Layout
-  final = record { columns = map (moved_to ms) kept_columns ++ columns_only_in new old; primary = old.primary; uniques = kept_keys ++ keys_only_in new old }
+  final = record { columns = modified_columns old new ++ columns_only_in new old; primary = old.primary; uniques = kept_keys old new ++ keys_only_in new old }
 
   moved_not_nullable : (m : Column) → IsIn m ms → is_nullable_column old.primary m ≡ false
   moved_not_nullable m i = ap (λ p. is_nullable_column p m) primary ∙ none_of (is_nullable_column new.primary) new.columns m of_new.not_nullable (moved_only old new m i).0
 
+  pub after_to_key_drops : after read old (key_drops old new) ≡ with_uniques old (kept_keys old new)
+  after_to_key_drops = after_key_drops read (keys_only_in old new) old
+
+  pub after_to_drops : after read old (to_drops old new) ≡ record { columns = kept_columns old new; primary = old.primary; uniques = kept_keys old new }
+  after_to_drops =
+      after_both read old (key_drops old new) (map (λ c. change.Drop c.name) (columns_only_in old new))
+      ∙ ap (λ l. after read l (map (λ c. change.Drop c.name) (columns_only_in old new))) after_to_key_drops
+      ∙ after_drops read (columns_only_in old new) (with_uniques old (kept_keys old new))
+
+  pub after_to_modifies : after read old (to_modifies old new) ≡ record { columns = modified_columns old new; primary = old.primary; uniques = kept_keys old new }
+  after_to_modifies =
+      after_both read old (to_drops old new) (map (λ c. change.Modify c spot.Keep c.nullable) ms)
+      ∙ ap (λ l. after read l (map (λ c. change.Modify c spot.Keep c.nullable) ms)) after_to_drops
+      ∙ after_modifies read ms (record { columns = kept_columns old new; primary = old.primary; uniques = kept_keys old new }) moved_not_nullable
+
+  pub after_to_adds : after read old (to_adds old new) ≡ record { columns = modified_columns old new ++ columns_only_in new old; primary = old.primary; uniques = kept_keys old new }
+  after_to_adds =
+      after_both read old (to_modifies old new) (map (λ c. change.Add c spot.Last) (columns_only_in new old))
+      ∙ ap (λ l. after read l (map (λ c. change.Add c spot.Last) (columns_only_in new old))) after_to_modifies
+      ∙ after_adds read (columns_only_in new old) (record { columns = modified_columns old new; primary = old.primary; uniques = kept_keys old new })
+
   after_all : after read old (alteration old new) ≡ final
   unfolding alteration
-  after_all = five where
-    one : after read old (map (λ k. change.DropKey k.name) (keys_only_in old new)) ≡ with_uniques old kept_keys
-    one = after_key_drops read (keys_only_in old new) old
-
-    two : after read old (map (λ k. change.DropKey k.name) (keys_only_in old new) ++ map (λ c. change.Drop c.name) (columns_only_in old new)) ≡ record { columns = kept_columns; primary = old.primary; uniques = kept_keys }
-    two =
-        after_both read old (map (λ k. change.DropKey k.name) (keys_only_in old new)) (map (λ c. change.Drop c.name) (columns_only_in old new))
-        ∙ ap (λ l. after read l (map (λ c. change.Drop c.name) (columns_only_in old new))) one
-        ∙ after_drops read (columns_only_in old new) (with_uniques old kept_keys)
-
-    three : after read old (map (λ k. change.DropKey k.name) (keys_only_in old new) ++ map (λ c. change.Drop c.name) (columns_only_in old new) ++ map (λ c. change.Modify c spot.Keep c.nullable) ms) ≡ record { columns = map (moved_to ms) kept_columns; primary = old.primary; uniques = kept_keys }
-    three =
-        after_both read old (map (λ k. change.DropKey k.name) (keys_only_in old new) ++ map (λ c. change.Drop c.name) (columns_only_in old new)) (map (λ c. change.Modify c spot.Keep c.nullable) ms)
-        ∙ ap (λ l. after read l (map (λ c. change.Modify c spot.Keep c.nullable) ms)) two
-        ∙ after_modifies read ms (record { columns = kept_columns; primary = old.primary; uniques = kept_keys }) moved_not_nullable
-
-    four : after read old (map (λ k. change.DropKey k.name) (keys_only_in old new) ++ map (λ c. change.Drop c.name) (columns_only_in old new) ++ map (λ c. change.Modify c spot.Keep c.nullable) ms ++ map (λ c. change.Add c spot.Last) (columns_only_in new old))
-        ≡ record { columns = map (moved_to ms) kept_columns ++ columns_only_in new old; primary = old.primary; uniques = kept_keys }
-    four =
-        after_both read old (map (λ k. change.DropKey k.name) (keys_only_in old new) ++ map (λ c. change.Drop c.name) (columns_only_in old new) ++ map (λ c. change.Modify c spot.Keep c.nullable) ms) (map (λ c. change.Add c spot.Last) (columns_only_in new old))
-        ∙ ap (λ l. after read l (map (λ c. change.Add c spot.Last) (columns_only_in new old))) three
-        ∙ after_adds read (columns_only_in new old) (record { columns = map (moved_to ms) kept_columns; primary = old.primary; uniques = kept_keys })
-
-    five : after read old (alteration old new) ≡ final
-    five =
-        after_both read old (map (λ k. change.DropKey k.name) (keys_only_in old new) ++ map (λ c. change.Drop c.name) (columns_only_in old new) ++ map (λ c. change.Modify c spot.Keep c.nullable) ms ++ map (λ c. change.Add c spot.Last) (columns_only_in new old)) (map (λ k. change.AddUnique k true) (keys_only_in new old))
-        ∙ ap (λ l. after read l (map (λ k. change.AddUnique k true) (keys_only_in new old))) four
-        ∙ after_key_adds read (keys_only_in new old) (record { columns = map (moved_to ms) kept_columns ++ columns_only_in new old; primary = old.primary; uniques = kept_keys })
+  after_all =
+      after_both read old (to_adds old new) (map (λ k. change.AddUnique k true) (keys_only_in new old))
+      ∙ ap (λ l. after read l (map (λ k. change.AddUnique k true) (keys_only_in new old))) after_to_adds
+      ∙ after_key_adds read (keys_only_in new old) (record { columns = modified_columns old new ++ columns_only_in new old; primary = old.primary; uniques = kept_keys old new })
 
   -- a column that both have is then the new one
   moved_is_new : (c n : Column) → IsIn c old.columns → IsIn n new.columns → n.name ≡ c.name → moved_to ms c ≡ n
@@ -333,9 +349,9 @@ module _ (read : Reading) (old new : Layout) (old_formed : is_formed old ≡ tru
         ∙ column_exact c n same
     by (inr other) = moves ms c n (in_moved old new n j (moved_is ∙ not_from_false (same_column c n) other)) named new_one
 
-  columns_to : (c : Column) → IsIn c final.columns → IsIn c new.columns
-  columns_to c i = by (in_either (map (moved_to ms) kept_columns) (columns_only_in new old) c i) where
-    from_kept : (d : Column) → IsIn d kept_columns → moved_to ms d ≡ c → IsIn c new.columns
+  pub columns_to : (c : Column) → IsIn c final.columns → IsIn c new.columns
+  columns_to c i = by (in_either (modified_columns old new) (columns_only_in new old) c i) where
+    from_kept : (d : Column) → IsIn d (kept_columns old new) → moved_to ms d ≡ c → IsIn c new.columns
     from_kept d j e = have (cases_Bool (has_column new.columns d.name)) where
       r : IsIn d old.columns × ((b : Column) → IsIn b (columns_only_in old new) → same_name d.name b.name ≡ false)
       r = from_removed column_name column_name (columns_only_in old new) old.columns d j
@@ -346,26 +362,26 @@ module _ (read : Reading) (old new : Layout) (old_formed : is_formed old ≡ tru
           subst (λ x. IsIn x new.columns) (sym (moved_is_new d n.0 r.0 n.1 (same_is_equal n.0.name d.name n.2)) ∙ e) n.1
       have (inr none) = absurd (true≢false (sym (same_itself d.name) ∙ r.1 d (in_column_only old new d r.0 none)))
 
-    by : IsIn c (map (moved_to ms) kept_columns) ⊎ IsIn c (columns_only_in new old) → IsIn c new.columns
-    by (inl j) = let d = from_map (moved_to ms) kept_columns c j in from_kept d.0 d.1 d.2
+    by : IsIn c (modified_columns old new) ⊎ IsIn c (columns_only_in new old) → IsIn c new.columns
+    by (inl j) = let d = from_map (moved_to ms) (kept_columns old new) c j in from_kept d.0 d.1 d.2
     by (inr j) = (column_only new old c j).0
 
-  columns_back : (n : Column) → IsIn n new.columns → IsIn n final.columns
+  pub columns_back : (n : Column) → IsIn n new.columns → IsIn n final.columns
   columns_back n i = by (cases_Bool (has_column old.columns n.name)) where
     by : (has_column old.columns n.name ≡ true) ⊎ (has_column old.columns n.name ≡ false) → IsIn n final.columns
-    by (inr none) = in_right (map (moved_to ms) kept_columns) (columns_only_in new old) n (in_column_only new old n i none)
+    by (inr none) = in_right (modified_columns old new) (columns_only_in new old) n (in_column_only new old n i none)
     by (inl some) =
         let c = any_from (λ x. same_name x.name n.name) old.columns some in
         let named : c.0.name ≡ n.name = same_is_equal c.0.name n.name c.2 in
-        let kept : IsIn c.0 kept_columns =
+        let kept : IsIn c.0 (kept_columns old new) =
         in_removed column_name column_name (columns_only_in old new) old.columns c.0 c.1 (λ b j.
         not_same c.0.name b.name (λ e. both_ways (has_column new.columns b.name) (column_only old new b j).1 (any_of (λ x. same_name x.name b.name) new.columns n i (same_from n.name b.name (sym named ∙ e))))) in
-        in_left (map (moved_to ms) kept_columns) (columns_only_in new old) n
-        (subst (λ x. IsIn x (map (moved_to ms) kept_columns)) (moved_is_new c.0 n c.1 i (sym named)) (in_map (moved_to ms) kept_columns c.0 kept))
+        in_left (modified_columns old new) (columns_only_in new old) n
+        (subst (λ x. IsIn x (modified_columns old new)) (moved_is_new c.0 n c.1 i (sym named)) (in_map (moved_to ms) (kept_columns old new) c.0 kept))
 
-  keys_to : (k : UniqueKey) → IsIn k final.uniques → IsIn k new.uniques
-  keys_to k i = by (in_either kept_keys (keys_only_in new old) k i) where
-    by : IsIn k kept_keys ⊎ IsIn k (keys_only_in new old) → IsIn k new.uniques
+  pub keys_to : (k : UniqueKey) → IsIn k final.uniques → IsIn k new.uniques
+  keys_to k i = by (in_either (kept_keys old new) (keys_only_in new old) k i) where
+    by : IsIn k (kept_keys old new) ⊎ IsIn k (keys_only_in new old) → IsIn k new.uniques
     by (inr j) = (key_only new old k j).0
     by (inl j) = have (cases_Bool (list_any (same_unique k) new.uniques)) where
       r : IsIn k old.uniques × ((b : UniqueKey) → IsIn b (keys_only_in old new) → same_name k.name b.name ≡ false)
@@ -378,10 +394,10 @@ module _ (read : Reading) (old new : Layout) (old_formed : is_formed old ≡ tru
   keys_back : (k : UniqueKey) → IsIn k new.uniques → IsIn k final.uniques
   keys_back k i = by (cases_Bool (list_any (same_unique k) old.uniques)) where
     by : (list_any (same_unique k) old.uniques ≡ true) ⊎ (list_any (same_unique k) old.uniques ≡ false) → IsIn k final.uniques
-    by (inr none) = in_right kept_keys (keys_only_in new old) k (in_key_only new old k i none)
+    by (inr none) = in_right (kept_keys old new) (keys_only_in new old) k (in_key_only new old k i none)
     by (inl some) =
         let there = has_unique old.uniques k some in
-        in_left kept_keys (keys_only_in new old) k
+        in_left (kept_keys old new) (keys_only_in new old) k
         (in_removed unique_name unique_name (keys_only_in old new) old.uniques k there (λ b j.
         not_same k.name b.name (λ e.
         let o = key_only old new b j in

@@ -16,3 +16,5 @@ pub mod AlterationLaws
 pub mod EffectLaws
 pub mod Widening
 pub mod Laws
+pub mod Passing
+pub mod EffectThere
