@@ -1,5 +1,6 @@
 -- Laws of the rows of a dump: each place that a good answer has is one from which a row is read again, in the order of
--- literals that is in force there.
+-- literals that is in force there; and what is read fits the schema.
+pub use Rattle.dm_dump.proofs.RowFits.{row_fits, row_in_force_fits}
 use Rattle.std.proofs.Common.{◌≡◌, ◌==◌, ℕ, suc, Bool, true, false, not, cond, ◌&&◌, ◌||◌, leb, List, [], ◌∷◌, ◌++◌, map, fold, drop, length, Option, Some, None, Result, Ok, Err, is_some, is_none, refl, sym, ap, ◌∙◌, subst, ◌⊎◌, inl, inr, arith, append_assoc, append-nil}
 use Rattle.std.specs.Option.{option_map, option_to_list}
 use Rattle.std.specs.List.{list_any, list_all}

@@ -7,5 +7,7 @@ pub mod UnitLemmas
 pub mod OutlineLemmas
 pub mod DumpLemmas
 pub mod Leading
+pub mod WholeOrder
+pub mod RowFits
 pub mod Laws
 pub mod OrderLaws
