@@ -1,34 +1,35 @@
 -- The changes from one schema to another have an effect, wherever kinds that stay are comparable and what is new has a fill.
-use Rattle.std.proofs.Common.{◌≡◌, suc, ◌≤◌, Bool, true, false, cond, List, [], ◌∷◌, ◌++◌, length, map, Option, Some, None, Ok, refl, sym, ap, subst, ◌∙◌, inl, inr, arith, append_assoc, append-nil}
-use Rattle.std.specs.Prelude.{◌⊎◌, ◌||◌, ◌&&◌, not, is_none, IsTrue}
+use Rattle.std.proofs.Common.{◌≡◌, ◌≤◌, Bool, true, false, List, [], ◌∷◌, ◌++◌, length, map, Option, Some, None, Ok, refl, sym, ap, subst, ◌∙◌, inl, inr, arith}
+use Rattle.std.specs.Prelude.{◌⊎◌, ◌||◌, ◌&&◌, not, is_some, is_none, IsTrue}
 use Rattle.std.specs.Option.{option_map_or}
-use Rattle.std.specs.List.{list_any, list_all, filter}
-use Rattle.std.proofs.lemmas.Bool.{false≢true, and_left, and_right, and_from, or_left, or_from, not_from_true, not_from_false, cond-true, cond-false, both_ways, leb-true, le-leb}
-use Rattle.std.proofs.lemmas.List.Folds.{list_any-append}
-use Rattle.dm_list.specs.Answer.{first_refusal}
+use Rattle.std.specs.List.{list_any, filter}
+use Rattle.std.proofs.lemmas.Bool.{false≢true, and_left, and_right, and_from, or_left, or_from, not_from_true, not_from_false, both_ways, leb-true, le-leb}
 use Rattle.dm_schema.specs.declared.column.Column.{Column}
 use Rattle.dm_schema.specs.declared.column.UniqueKey.{UniqueKey}
+use Rattle.dm_schema.specs.declared.column.DefaultRule.{DefaultRule}
+use Rattle.dm_schema.specs.declared.column.DefaultRule.TheVariants as default
 use Rattle.dm_schema.specs.declared.change.Change.{Change}
 use Rattle.dm_schema.specs.declared.change.Change.TheVariants as change
 use Rattle.dm_schema.specs.declared.change.Spot.TheVariants as spot
 use Rattle.dm_schema.specs.Layout.{Layout}
 use Rattle.dm_schema.specs.Names.{Text, same_name, column_at, has_column}
-use Rattle.dm_schema.specs.Fill.{fill}
+use Rattle.dm_schema.specs.Fill.{fill, fill_by, fill_for_missing, missing_by}
 use Rattle.dm_schema.specs.Kinds.{is_column, is_key}
-use Rattle.dm_schema.specs.KindOrder.{comparable}
-use Rattle.dm_schema.specs.Schemas.{all_columns, is_formed, is_nullable_column, is_unfit_default, names_repeat, same_column, same_unique, schema_equal, joined_schema_of}
-use Rattle.dm_schema.specs.Effect.{Reading, is_among, has_key, replaced, without_column, adds, drops, was_added, was_dropped, has_no_fill, differs_in_family, modified_column, refusals_of, changed, step, steps, joined_effect}
+use Rattle.dm_schema.specs.KindOrder.{kind_at_most, comparable}
+use Rattle.dm_schema.specs.Schemas.{all_columns, is_formed, is_nullable_column, is_unfit_default, names_repeat, same_column, same_unique, schema_equal}
+use Rattle.dm_schema.specs.Effect.{Reading, is_among, has_key, replaced, without_column, adds, drops, was_added, was_dropped, has_no_fill, differs_in_family, modified_column, joined_effect}
+use Rattle.dm_join.specs.AtMost.{at_most}
 use Rattle.dm_join.specs.Alteration.{keys_only_in, columns_only_in, columns_moved, alteration}
-use Rattle.dm_join.proofs.Lists.{IsIn, all_of, all_from, any_of, any_from, none_of, none_from, in_filter, from_filter, from_map, in_left, in_either}
-use Rattle.dm_join.proofs.NameLemmas.{same_is_equal, same_itself, same_from, same_back, not_same}
-use Rattle.dm_join.proofs.Orders.{AreApart, column_name, length_filtered, apart_from, apart_repeats, apart_filtered, apart_ordered, found_column, finds_each}
-use Rattle.dm_join.proofs.Formed.{Formed, formed_parts, formed_makes}
+use Rattle.dm_join.proofs.Lists.{IsIn, all_of, all_from, any_of, any_from, none_of, none_from, in_filter, in_left}
+use Rattle.dm_join.proofs.NameLemmas.{same_is_equal, same_from, same_back, not_same}
+use Rattle.dm_join.proofs.Orders.{AreApart, column_name, apart_from, apart_repeats, apart_filtered, apart_ordered, found_column, finds_each}
+use Rattle.dm_join.proofs.Formed.{Formed, formed_parts}
 use Rattle.dm_join.proofs.JoinFormed.{unique_name}
-use Rattle.dm_join.proofs.AtMostLaws.{columns_apart, has_name, same_unique_itself}
+use Rattle.dm_join.proofs.AtMostLaws.{AtMost, at_most_parts, columns_apart, has_name, same_unique_itself}
 use Rattle.dm_join.proofs.AlterationLaws.{is_moved}
-use Rattle.dm_join.proofs.Laws.{has_found, unfound_lacks}
-use Rattle.dm_join.proofs.EffectLaws.{after, removed, from_removed, in_removed, moved_to, as_written, among_alike, one_of_name, key_only, column_only, moved_only, kept_columns, modified_columns, kept_keys, key_drops, to_drops, to_modifies, to_adds, after_to_key_drops, after_to_drops, after_to_modifies, after_to_adds, columns_to, columns_back, keys_to, effect_of_alteration}
-use Rattle.dm_join.proofs.Passing.{Pass, Goes, all_steps, both_pass, none_both, none_with, none_mapped, apart_both, apart_removed, no_more, has_mapped, apart_mapped, at_replaced, moved_named, AreColumns, AreKeys, AreShared, keys_filtered, keys_with, columns_without, columns_replaced, columns_with, not_among}
+use Rattle.dm_join.proofs.Laws.{has_found, lacks_unfound, unfound_lacks}
+use Rattle.dm_join.proofs.EffectLaws.{after, from_removed, in_removed, moved_to, as_written, among_alike, one_of_name, key_only, column_only, moved_only, kept_columns, modified_columns, kept_keys, key_drops, to_drops, to_modifies, to_adds, after_to_key_drops, after_to_drops, after_to_modifies, after_to_adds, columns_to, columns_back, keys_to, effect_of_alteration}
+use Rattle.dm_join.proofs.Passing.{Pass, all_steps, both_pass, none_both, none_with, none_mapped, apart_both, apart_removed, no_more, has_mapped, apart_mapped, at_replaced, moved_named, AreBetween, AreKeysOf, AreShared, keys_filtered, keys_with, columns_without, columns_replaced, columns_with, not_among}
 
 -- What an alteration can bring about: a column that stays has a comparable kind, and one that is new has a fill.
 pub record CanBecome (old new : Layout) : Type 0 where
@@ -80,7 +81,7 @@ module _ (read : Reading) (old new : Layout) (old_formed : is_formed old ≡ tru
   not_nullable : (c : Column) → IsIn c new.columns → is_nullable_column old.primary c ≡ false
   not_nullable c i = ap (λ p. is_nullable_column p c) primary ∙ none_of (is_nullable_column new.primary) new.columns c of_new.not_nullable i
 
-  formed_between : (s : Layout) (columns : List Column) (uniques : List UniqueKey) → Formed s → AreColumns old new columns → AreKeys s columns uniques → Formed (between columns uniques)
+  formed_between : (s : Layout) (columns : List Column) (uniques : List UniqueKey) → Formed s → AreBetween old new columns → AreKeysOf s columns uniques → Formed (between columns uniques)
   formed_between s columns uniques of_s are keys =
       let most : length s.uniques ≤ 16 = leb-true (length s.uniques) 16 of_s.few_keys in
       let fewer : length uniques ≤ length s.uniques = no_more unique_name uniques s.uniques keys.apart keys.from in
@@ -107,7 +108,7 @@ module _ (read : Reading) (old new : Layout) (old_formed : is_formed old ≡ tru
   new_key_stands k i = all_of (λ k. all_columns new.columns k.columns) new.uniques k of_new.keys_stand i
 
   -- the columns of a key that both have are there
-  keys_of_both : (columns : List Column) (uniques : List UniqueKey) → AreColumns old new columns → AreShared old new uniques → AreKeys new columns uniques
+  keys_of_both : (columns : List Column) (uniques : List UniqueKey) → AreBetween old new columns → AreShared old new uniques → AreKeysOf new columns uniques
   keys_of_both columns uniques are keys = record {
     from = keys.from_new;
     apart = keys.apart;
@@ -115,18 +116,18 @@ module _ (read : Reading) (old new : Layout) (old_formed : is_formed old ≡ tru
         are.shared n (all_of (λ m. has_column old.columns m) k.columns n (old_key_stands k (keys.from_old k i)) j) (all_of (λ m. has_column new.columns m) k.columns n (new_key_stands k (keys.from_new k i)) j));
   }
 
-  as_before : AreColumns old new old.columns
+  as_before : AreBetween old new old.columns
   as_before = record { from = λ c i. inl i; apart = columns_apart old old_formed; shared = λ n here there. here }
 
-  key_drops_pass : (before : List Change) (ks uniques : List UniqueKey) → AreKeys old old.columns uniques → Pass read before (between old.columns uniques) (map (λ k. change.DropKey k.name) ks)
+  key_drops_pass : (before : List Change) (ks uniques : List UniqueKey) → AreKeysOf old old.columns uniques → Pass read before (between old.columns uniques) (map (λ k. change.DropKey k.name) ks)
   key_drops_pass before [] uniques keys = tt
   key_drops_pass before (k ∷ ks) uniques keys =
-      let rest : AreKeys old old.columns (filter (λ j. not (same_name j.name k.name)) uniques) = keys_filtered old old.columns (λ j. not (same_name j.name k.name)) uniques keys in (
+      let rest : AreKeysOf old old.columns (filter (λ j. not (same_name j.name k.name)) uniques) = keys_filtered old old.columns (λ j. not (same_name j.name k.name)) uniques keys in (
         record { allowed = tt; formed = formed_between old old.columns (filter (λ j. not (same_name j.name k.name)) uniques) of_old as_before rest },
         key_drops_pass (before ++ change.DropKey k.name ∷ []) ks (filter (λ j. not (same_name j.name k.name)) uniques) rest,
       )
 
-  drops_pass : (before : List Change) (cs columns : List Column) (uniques : List UniqueKey) → NoneAdded before → AreShared old new uniques → AreColumns old new columns → AreApart column_name cs
+  drops_pass : (before : List Change) (cs columns : List Column) (uniques : List UniqueKey) → NoneAdded before → AreShared old new uniques → AreBetween old new columns → AreApart column_name cs
       → ((c : Column) → IsIn c cs → IsIn c columns × (has_column new.columns c.name ≡ false)) → Pass read before (between columns uniques) (map (λ c. change.Drop c.name) cs)
   drops_pass before [] columns uniques none keys are apart each = tt
   drops_pass before (c ∷ cs) columns uniques none keys are apart each = (
@@ -144,7 +145,7 @@ module _ (read : Reading) (old new : Layout) (old_formed : is_formed old ≡ tru
     rest : List Column
     rest = without_column columns c.name
 
-    rest_are : AreColumns old new (without_column columns c.name)
+    rest_are : AreBetween old new (without_column columns c.name)
     rest_are = columns_without old new columns c.name are first.1
 
     in_no_key : (is_among old.primary c.name || list_any (λ k. is_among k.columns c.name) uniques) ≡ false
@@ -153,7 +154,7 @@ module _ (read : Reading) (old new : Layout) (old_formed : is_formed old ≡ tru
         (not_among new.columns old.primary c.name new_primary_stands first.1)
         (none_from (λ k. is_among k.columns c.name) uniques (λ k i. not_among new.columns k.columns c.name (new_key_stands k (keys.from_new k i)) first.1))
 
-  modifies_pass : (before : List Change) (ms columns : List Column) (uniques : List UniqueKey) → NoneAdded before → AreShared old new uniques → AreColumns old new columns → AreApart column_name ms
+  modifies_pass : (before : List Change) (ms columns : List Column) (uniques : List UniqueKey) → NoneAdded before → AreShared old new uniques → AreBetween old new columns → AreApart column_name ms
       → ((m : Column) → IsIn m ms → CanModify new columns m) → Pass read before (between columns uniques) (map (λ c. change.Modify c spot.Keep c.nullable) ms)
   modifies_pass before [] columns uniques none keys are apart each = tt
   modifies_pass before (m ∷ ms) columns uniques none keys are apart each = (
@@ -171,7 +172,7 @@ module _ (read : Reading) (old new : Layout) (old_formed : is_formed old ≡ tru
     written : modified_column (between columns uniques) m ≡ m
     written = as_written (between columns uniques) m (not_nullable m first.is_new)
 
-    rest_are : AreColumns old new (replaced m columns)
+    rest_are : AreBetween old new (replaced m columns)
     rest_are = columns_replaced old new columns m are first.is_new
 
     unwritten : (m.nullable && is_among old.primary m.name) ≡ false
@@ -183,7 +184,7 @@ module _ (read : Reading) (old new : Layout) (old_formed : is_formed old ≡ tru
     still : (d : Column) → IsIn d ms → CanModify new columns d → CanModify new (replaced m columns) d
     still d i can = record { is_new = can.is_new; before = can.before; at = at_replaced m columns d.name (apart.0 d i) ∙ can.at; kinds = can.kinds }
 
-  adds_pass : (before : List Change) (ds columns : List Column) (uniques : List UniqueKey) → AreShared old new uniques → AreColumns old new columns → AreApart column_name ds
+  adds_pass : (before : List Change) (ds columns : List Column) (uniques : List UniqueKey) → AreShared old new uniques → AreBetween old new columns → AreApart column_name ds
       → ((d : Column) → IsIn d ds → CanAdd new before columns d) → Pass read before (between columns uniques) (map (λ c. change.Add c spot.Last) ds)
   adds_pass before [] columns uniques keys are apart each = tt
   adds_pass before (d ∷ ds) columns uniques keys are apart each = (
@@ -196,7 +197,7 @@ module _ (read : Reading) (old new : Layout) (old_formed : is_formed old ≡ tru
     first : CanAdd new before columns d
     first = each d (inl refl)
 
-    rest_are : AreColumns old new (columns ++ d ∷ [])
+    rest_are : AreBetween old new (columns ++ d ∷ [])
     rest_are = columns_with old new columns d are first.is_new first.is_free
 
     still : (e : Column) → IsIn e ds → CanAdd new before columns e → CanAdd new (before ++ change.Add d spot.Last ∷ []) (columns ++ d ∷ []) e
@@ -207,8 +208,8 @@ module _ (read : Reading) (old new : Layout) (old_formed : is_formed old ≡ tru
       has_fill = can.has_fill;
     }
 
-  key_adds_pass : (before : List Change) (ks : List UniqueKey) (columns : List Column) (uniques : List UniqueKey) → AreColumns old new columns → ((n : Text) → has_column new.columns n ≡ true → has_column columns n ≡ true)
-      → AreKeys new columns uniques → AreApart unique_name ks → ((k : UniqueKey) → IsIn k ks → IsIn k new.uniques × (has_key uniques k.name ≡ false)) → Pass read before (between columns uniques) (map (λ k. change.AddUnique k true) ks)
+  key_adds_pass : (before : List Change) (ks : List UniqueKey) (columns : List Column) (uniques : List UniqueKey) → AreBetween old new columns → ((n : Text) → has_column new.columns n ≡ true → has_column columns n ≡ true)
+      → AreKeysOf new columns uniques → AreApart unique_name ks → ((k : UniqueKey) → IsIn k ks → IsIn k new.uniques × (has_key uniques k.name ≡ false)) → Pass read before (between columns uniques) (map (λ k. change.AddUnique k true) ks)
   key_adds_pass before [] columns uniques are all keys apart each = tt
   key_adds_pass before (k ∷ ks) columns uniques are all keys apart each = (
     record {
@@ -224,7 +225,7 @@ module _ (read : Reading) (old new : Layout) (old_formed : is_formed old ≡ tru
     stands : all_columns columns k.columns ≡ true
     stands = all_from (λ n. has_column columns n) k.columns (λ n i. all n (all_of (λ m. has_column new.columns m) k.columns n (new_key_stands k first.0) i))
 
-    rest_keys : AreKeys new columns (uniques ++ k ∷ [])
+    rest_keys : AreKeysOf new columns (uniques ++ k ∷ [])
     rest_keys = keys_with new columns uniques k keys first.0 stands first.1
 
   keys_shared : AreShared old new (kept_keys old new)
@@ -246,7 +247,7 @@ module _ (read : Reading) (old new : Layout) (old_formed : is_formed old ≡ tru
   kept_apart : AreApart column_name (kept_columns old new)
   kept_apart = apart_removed column_name column_name (columns_only_in old new) old.columns (columns_apart old old_formed)
 
-  kept_are : AreColumns old new (kept_columns old new)
+  kept_are : AreBetween old new (kept_columns old new)
   kept_are = record {
     from = λ c i. inl (from_kept c i);
     apart = kept_apart;
@@ -267,7 +268,7 @@ module _ (read : Reading) (old new : Layout) (old_formed : is_formed old ≡ tru
         let has : has_column new.columns c.name ≡ true = any_of (λ d. same_name d.name c.name) new.columns m is_there.0 (same_from m.name c.name (sym found.1)) in
         record { is_new = is_there.0; before = c; at = ap (column_at (kept_columns old new)) (sym found.1) ∙ finds_each (kept_columns old new) c kept_apart (stays c found.0 has); kinds = can.kept m c is_there.0 at }
 
-  modified_are : AreColumns old new (modified_columns old new)
+  modified_are : AreBetween old new (modified_columns old new)
   modified_are = record {
     from = λ c i. inr (columns_to read old new old_formed new_formed primary c (in_left (modified_columns old new) (columns_only_in new old) c i));
     apart = apart_mapped (moved_to (columns_moved old new)) (kept_columns old new) (moved_named (columns_moved old new)) kept_apart;
@@ -300,7 +301,7 @@ module _ (read : Reading) (old new : Layout) (old_formed : is_formed old ≡ tru
       let c = any_from (λ d. same_name d.name n) new.columns there in
       any_of (λ d. same_name d.name n) (modified_columns old new ++ columns_only_in new old) c.0 (columns_back read old new old_formed new_formed primary c.0 c.1) c.2
 
-  final_are : AreColumns old new (modified_columns old new ++ columns_only_in new old)
+  final_are : AreBetween old new (modified_columns old new ++ columns_only_in new old)
   final_are = record {
     from = λ c i. inr (columns_to read old new old_formed new_formed primary c i);
     apart = apart_both column_name (modified_columns old new) (columns_only_in new old) modified_are.apart added_apart (λ c d i j. none_of (λ x. same_name x.name d.name) (modified_columns old new) c (can_add d j).is_free i);
@@ -369,3 +370,26 @@ unfolding joined_effect
 alteration_has_effect read old new old_formed new_formed primary can =
     let there : joined_effect read old (alteration old new) ≡ Ok (after read old (alteration old new)) = all_steps read [] old (alteration old new) (all_pass read old new old_formed new_formed primary can) in
     (after read old (alteration old new), there, effect_of_alteration read old new (after read old (alteration old new)) old_formed new_formed primary there)
+
+-- A schema can become each that it is at most.
+
+has_some_fill : (c : Column) → is_some (fill_for_missing c) ≡ true → is_none (fill c) ≡ false
+has_some_fill c e = by c.default_rule c.nullable e where
+  by : (rule : DefaultRule) (nullable : Bool) → is_some (missing_by rule nullable) ≡ true → is_none (fill_by rule nullable c.kind) ≡ false
+  by (default.Const v) nullable h = refl
+  by default.Nothing true h = refl
+  by default.Nothing false h = absurd (false≢true h)
+  by default.Now nullable h = absurd (false≢true h)
+
+pub can_become_greater : (old new : Layout) → IsTrue (is_formed new) → at_most old new ≡ true → CanBecome old new
+can_become_greater old new formed low = record {
+  kept = λ c before i at.
+      let found = found_column old.columns c.name before at in
+      let above = parts.columns before found.0 in
+      let two : Some above.high ≡ Some c = sym above.at ∙ ap (column_at new.columns) found.1 ∙ finds_each new.columns c (columns_apart new formed) i in
+      let is : above.high ≡ c = cc two in
+      or_left (kind_at_most before.kind c.kind) (kind_at_most c.kind before.kind) (subst (λ (d : Column). kind_at_most before.kind d.kind ≡ true) is above.holds.kind);
+  filled = λ c i none. has_some_fill c (parts.filled c i (lacks_unfound old.columns c.name none));
+} where
+  parts : AtMost old new
+  parts = at_most_parts old new low

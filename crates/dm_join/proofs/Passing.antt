@@ -1,32 +1,22 @@
 -- Changes of which each goes behind those before it, and layouts between two schemas, of which a schema can be made.
-use Rattle.std.proofs.Common.{◌≡◌, suc, ◌≤◌, Bool, true, false, cond, List, [], ◌∷◌, ◌++◌, length, map, Option, Some, None, Ok, refl, sym, ap, subst, ◌∙◌, inl, inr, arith, append_assoc, append-nil}
-use Rattle.std.specs.Prelude.{◌⊎◌, ◌||◌, ◌&&◌, not, is_none, IsTrue}
-use Rattle.std.specs.Option.{option_map_or}
-use Rattle.std.specs.List.{list_any, list_all, filter}
-use Rattle.std.proofs.lemmas.Bool.{false≢true, and_left, and_right, and_from, or_left, or_from, not_from_true, not_from_false, cond-true, cond-false, both_ways, leb-true, le-leb}
+use Rattle.std.proofs.Common.{◌≡◌, suc, ◌≤◌, Bool, true, false, cond, List, [], ◌∷◌, ◌++◌, length, map, Some, None, Ok, refl, sym, ap, subst, ◌∙◌, inl, inr, arith, append_assoc, append-nil}
+use Rattle.std.specs.Prelude.{◌⊎◌, ◌||◌, not}
+use Rattle.std.specs.List.{list_any, filter}
+use Rattle.std.proofs.lemmas.Bool.{or_left, or_from, not_from_true, not_from_false, cond-false, both_ways}
 use Rattle.std.proofs.lemmas.List.Folds.{list_any-append}
 use Rattle.dm_list.specs.Answer.{first_refusal}
 use Rattle.dm_schema.specs.declared.column.Column.{Column}
 use Rattle.dm_schema.specs.declared.column.UniqueKey.{UniqueKey}
 use Rattle.dm_schema.specs.declared.change.Change.{Change}
-use Rattle.dm_schema.specs.declared.change.Change.TheVariants as change
-use Rattle.dm_schema.specs.declared.change.Spot.TheVariants as spot
 use Rattle.dm_schema.specs.Layout.{Layout}
 use Rattle.dm_schema.specs.Names.{Text, same_name, column_at, has_column}
-use Rattle.dm_schema.specs.Fill.{fill}
-use Rattle.dm_schema.specs.Kinds.{is_column, is_key}
-use Rattle.dm_schema.specs.KindOrder.{comparable}
-use Rattle.dm_schema.specs.Schemas.{all_columns, is_formed, is_nullable_column, is_unfit_default, names_repeat, same_column, same_unique, schema_equal, joined_schema_of}
-use Rattle.dm_schema.specs.Effect.{Reading, is_among, has_key, replaced, without_column, adds, drops, was_added, was_dropped, has_no_fill, differs_in_family, refusals_of, changed, step, steps, joined_effect}
-use Rattle.dm_join.specs.Alteration.{keys_only_in, columns_only_in, columns_moved, alteration}
-use Rattle.dm_join.proofs.Lists.{IsIn, all_of, all_from, any_of, any_from, none_of, none_from, in_filter, from_filter, from_map, in_left, in_either}
-use Rattle.dm_join.proofs.NameLemmas.{same_is_equal, same_itself, same_from, same_back, not_same}
-use Rattle.dm_join.proofs.Orders.{AreApart, column_name, length_filtered, apart_from, apart_repeats, apart_filtered, apart_ordered, found_column, finds_each}
-use Rattle.dm_join.proofs.Formed.{Formed, formed_parts, formed_makes}
+use Rattle.dm_schema.specs.Schemas.{all_columns, joined_schema_of}
+use Rattle.dm_schema.specs.Effect.{Reading, is_among, has_key, replaced, without_column, refusals_of, changed, step, steps}
+use Rattle.dm_join.proofs.Lists.{IsIn, all_of, any_of, any_from, none_of, none_from, in_filter, from_filter, from_map, in_either}
+use Rattle.dm_join.proofs.NameLemmas.{same_is_equal, same_itself, not_same}
+use Rattle.dm_join.proofs.Orders.{AreApart, column_name, length_filtered, apart_filtered}
+use Rattle.dm_join.proofs.Formed.{Formed, formed_makes}
 use Rattle.dm_join.proofs.JoinFormed.{unique_name}
-use Rattle.dm_join.proofs.AtMostLaws.{has_name, same_unique_itself}
-use Rattle.dm_join.proofs.AlterationLaws.{is_moved}
-use Rattle.dm_join.proofs.Laws.{has_found, unfound_lacks}
 use Rattle.dm_join.proofs.EffectLaws.{after, step_passed, made_ok, removed, moved_to}
 
 -- Changes of which none is refused.
@@ -163,13 +153,13 @@ moved_named (m ∷ ms) c = moved_named ms (cond (same_name c.name m.name) m c) �
 -- Layouts between two schemas.
 
 -- columns between those of two schemas: each is one of them, and what both have under a name is there
-pub record AreColumns (old new : Layout) (columns : List Column) : Type 0 where
+pub record AreBetween (old new : Layout) (columns : List Column) : Type 0 where
   pub from : (c : Column) → IsIn c columns → IsIn c old.columns ⊎ IsIn c new.columns
   pub apart : AreApart column_name columns
   pub shared : (n : Text) → has_column old.columns n ≡ true → has_column new.columns n ≡ true → has_column columns n ≡ true
 
 -- keys of a schema whose columns are there
-pub record AreKeys (s : Layout) (columns : List Column) (uniques : List UniqueKey) : Type 0 where
+pub record AreKeysOf (s : Layout) (columns : List Column) (uniques : List UniqueKey) : Type 0 where
   pub from : (k : UniqueKey) → IsIn k uniques → IsIn k s.uniques
   pub apart : AreApart unique_name uniques
   pub stand : (k : UniqueKey) → IsIn k uniques → all_columns columns k.columns ≡ true
@@ -180,15 +170,15 @@ pub record AreShared (old new : Layout) (uniques : List UniqueKey) : Type 0 wher
   pub from_new : (k : UniqueKey) → IsIn k uniques → IsIn k new.uniques
   pub apart : AreApart unique_name uniques
 
-pub keys_filtered : (s : Layout) (columns : List Column) (f : UniqueKey → Bool) (uniques : List UniqueKey) → AreKeys s columns uniques → AreKeys s columns (filter f uniques)
+pub keys_filtered : (s : Layout) (columns : List Column) (f : UniqueKey → Bool) (uniques : List UniqueKey) → AreKeysOf s columns uniques → AreKeysOf s columns (filter f uniques)
 keys_filtered s columns f uniques keys = record {
   from = λ k i. keys.from k (from_filter f uniques k i).0;
   apart = apart_filtered unique_name f uniques keys.apart;
   stand = λ k i. keys.stand k (from_filter f uniques k i).0;
 }
 
-pub keys_with : (s : Layout) (columns : List Column) (uniques : List UniqueKey) (k : UniqueKey) → AreKeys s columns uniques → IsIn k s.uniques → all_columns columns k.columns ≡ true → has_key uniques k.name ≡ false
-    → AreKeys s columns (uniques ++ k ∷ [])
+pub keys_with : (s : Layout) (columns : List Column) (uniques : List UniqueKey) (k : UniqueKey) → AreKeysOf s columns uniques → IsIn k s.uniques → all_columns columns k.columns ≡ true → has_key uniques k.name ≡ false
+    → AreKeysOf s columns (uniques ++ k ∷ [])
 keys_with s columns uniques k keys there stands free = record {
   from = λ j i. from j (in_either uniques (k ∷ []) j i);
   apart = apart_with unique_name uniques k keys.apart free;
@@ -204,7 +194,7 @@ keys_with s columns uniques k keys there stands free = record {
   stand j (inr (inl is)) = ap (λ (x : UniqueKey). all_columns columns x.columns) (sym is) ∙ stands
   stand j (inr (inr i)) = absurd i
 
-pub columns_without : (old new : Layout) (columns : List Column) (name : Text) → AreColumns old new columns → has_column new.columns name ≡ false → AreColumns old new (without_column columns name)
+pub columns_without : (old new : Layout) (columns : List Column) (name : Text) → AreBetween old new columns → has_column new.columns name ≡ false → AreBetween old new (without_column columns name)
 columns_without old new columns name are lacks = record {
   from = λ c i. are.from c (from_filter (λ d. not (same_name d.name name)) columns c i).0;
   apart = apart_filtered column_name (λ d. not (same_name d.name name)) columns are.apart;
@@ -217,7 +207,7 @@ columns_without old new columns name are lacks = record {
       c.2;
 }
 
-pub columns_replaced : (old new : Layout) (columns : List Column) (m : Column) → AreColumns old new columns → IsIn m new.columns → AreColumns old new (replaced m columns)
+pub columns_replaced : (old new : Layout) (columns : List Column) (m : Column) → AreBetween old new columns → IsIn m new.columns → AreBetween old new (replaced m columns)
 columns_replaced old new columns m are there = record {
   from = λ c i. let d = from_map (in_place m) columns c i in by c d.0 d.1 d.2 (place_either m d.0);
   apart = apart_mapped (in_place m) columns (place_named m) are.apart;
@@ -227,7 +217,7 @@ columns_replaced old new columns m are there = record {
   by c d i is (inl new_one) = inr (subst (λ x. IsIn x new.columns) (sym new_one ∙ is) there)
   by c d i is (inr old_one) = subst (λ x. IsIn x old.columns ⊎ IsIn x new.columns) (sym old_one ∙ is) (are.from d i)
 
-pub columns_with : (old new : Layout) (columns : List Column) (c : Column) → AreColumns old new columns → IsIn c new.columns → has_column columns c.name ≡ false → AreColumns old new (columns ++ c ∷ [])
+pub columns_with : (old new : Layout) (columns : List Column) (c : Column) → AreBetween old new columns → IsIn c new.columns → has_column columns c.name ≡ false → AreBetween old new (columns ++ c ∷ [])
 columns_with old new columns c are there free = record {
   from = λ d i. from d (in_either columns (c ∷ []) d i);
   apart = apart_with column_name columns c are.apart free;
