@@ -1,2 +1,3 @@
 pub mod Joins
-mod SchemaMaps
+pub mod Laws
+pub mod SchemaMaps

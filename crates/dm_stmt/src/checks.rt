@@ -37,8 +37,7 @@ pub fn is_record(record: &Record, known: &Known) -> bool
 fn is_meta_table(table: &TableName) -> bool
     ensures { result ≡ is_meta_table table.now }
 {
-    table.db.as_slice() == b"dm_meta".as_slice()
-        && table.table.as_slice() == b"state".as_slice()
+    table.db.as_slice() == b"dm_meta".as_slice() && table.table.as_slice() == b"state".as_slice()
 }
 
 /// Each schema is formed.
@@ -88,9 +87,7 @@ fn is_written_change(change: &Change) -> bool
             column,
             spot,
             null_written,
-        } => {
-            keeps_place(spot) && *null_written == column.nullable && is_whole_column(column)
-        }
+        } => { keeps_place(spot) && *null_written == column.nullable && is_whole_column(column) }
         Change::AddUnique { key, named } => *named && is_key(key),
         _ => false,
     }
