@@ -17,7 +17,6 @@ use Rattle.dm_schema.specs.Names.{Text, same_name, column_at, column_names, has_
 use Rattle.dm_schema.specs.Schemas.{all_columns}
 use Rattle.dm_text.specs.Names.{table_name_text}
 use Rattle.dm_text.specs.Columns.{parts_text}
-use Rattle.dm_table.specs.declared.op.RowOp.{RowOp}
 use Rattle.dm_target.specs.Contents.{table_name_cmp}
 use Rattle.dm_stmt.specs.declared.record.Record.{Record}
 use Rattle.dm_stmt.specs.declared.record.Record.TheVariants as record_of

@@ -1,3 +1,3 @@
-pub mod Joins
+mod Joins
 pub mod Laws
-pub mod SchemaMaps
+mod SchemaMaps

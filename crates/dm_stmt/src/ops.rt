@@ -19,7 +19,8 @@ pub(crate) fn push_ops(
     ops: &[RowOp],
 ) -> Result<(), AllocError>
     ensures { OnOk result
-        (out.new.items ≡ out.old.items ++ transaction (flat_map (op_text table.now schema.now) ops.now)) }
+        (out.new.items ≡ out.old.items
+        ++ transaction (flat_map (op_text table.now schema.now) ops.now)) }
 {
     out.extend_from_slice(b"BEGIN;\n")?;
     push_each_op(alloc, out, table, schema, ops)?;
@@ -83,7 +84,8 @@ fn push_row(
     row: &[Value],
 ) -> Result<(), AllocError>
     ensures { OnOk result
-        (out.new.items ≡ out.old.items ++ row_text verb.now table.now schema.now names.now row.now) }
+        (out.new.items ≡ out.old.items
+        ++ row_text verb.now table.now schema.now names.now row.now) }
 {
     out.extend_from_slice(verb)?;
     out.extend_from_slice(b" INTO ")?;
@@ -91,7 +93,7 @@ fn push_row(
     out.push(b' ')?;
     push_name_list(out, names)?;
     out.extend_from_slice(b" VALUES ")?;
-    push_row_values(alloc, out, schema.columns(), names, row)?;
+    push_row_values(alloc, out, schema, names, row)?;
     out.extend_from_slice(b";\n")?;
     Ok(())
 }
@@ -106,12 +108,13 @@ fn push_update(
     row: &[Value],
 ) -> Result<(), AllocError>
     ensures { OnOk result
-        (out.new.items ≡ out.old.items ++ op_text table.now schema.now (RowOp.Update names.now key.now row.now)) }
+        (out.new.items ≡ out.old.items
+        ++ op_text table.now schema.now (RowOp.Update names.now key.now row.now)) }
 {
     out.extend_from_slice(b"UPDATE ")?;
     push_table_name(out, table)?;
     out.extend_from_slice(b" SET ")?;
-    push_equations(alloc, out, b",", schema.columns(), names, row)?;
+    push_equations(alloc, out, b",", schema, names, row)?;
     push_where(alloc, out, schema, key)?;
     out.extend_from_slice(b" LIMIT 1;\n")?;
     Ok(())
@@ -128,7 +131,9 @@ fn push_delete(
     end: &[u8],
 ) -> Result<(), AllocError>
     ensures { OnOk result
-        (out.new.items ≡ out.old.items ++ (codes "DELETE FROM " ++ table_name_text table.now ++ where_text schema.now key.now ++ end.now)) }
+        (out.new.items ≡ out.old.items
+        ++ (codes "DELETE FROM " ++ table_name_text table.now
+        ++ where_text schema.now key.now ++ end.now)) }
 {
     out.extend_from_slice(b"DELETE FROM ")?;
     push_table_name(out, table)?;
@@ -148,5 +153,5 @@ fn push_where(
 {
     let names = schema.primary().as_slice();
     out.extend_from_slice(b" WHERE ")?;
-    push_equations(alloc, out, b" AND ", schema.columns(), names, key)
+    push_equations(alloc, out, b" AND ", schema, names, key)
 }
