@@ -1,2 +1,3 @@
-pub mod Joins
+mod Joins
+pub mod Laws
 mod SchemaMaps

@@ -1,5 +1,5 @@
 -- The entries of a program's map of schemas, as a finite map.
-use Rattle.std.proofs.Common.{◌≡◌, cond, List, [], ◌∷◌, Option, Some, refl, sym, ap, ◌∙◌}
+use Rattle.std.proofs.Common.{◌≡◌, cond, List, [], ◌∷◌, Some, refl, sym, ap, ◌∙◌}
 use Rattle.std.specs.Cmp.{IsTotalOrder}
 use Rattle.std.specs.Ordering.{eq_by_cmp}
 use Rattle.std.specs.BTreeMap.{BTreeMap, UpdatesBy, get, is_at}
@@ -21,7 +21,7 @@ SchemaMap = BTreeMap TableName Layout
 abbrev pub seen : SchemaMap → KnownMap
 seen m = fin.from_entries m.entries
 
-total : IsTotalOrder table_name_cmp
+pub total : IsTotalOrder table_name_cmp
 total = total-law
 
 -- only equal names tie
@@ -39,6 +39,6 @@ get_seen m q = sym (found_is_looked_up q m.entries) ∙ sym (get-from_entries to
 pub inserted : (m n : SchemaMap) (k key : TableName) (v value : Layout) → key ≡ k → value ≡ v → UpdatesBy table_name_cmp (table_name_cmp key) m n (Some value) → seen n ≡ fin.insert (seen m) k v
 inserted m n k key v value same_key same_value h =
     same_map total exact _ _ (λ q.
-        sym (get_seen n q) ∙ h.0 q ∙ ap (λ b. cond b (Some value) (get table_name_cmp m q)) ((eq_by_cmp_equiv total).symm key q) ∙ ap (cond (eq_by_cmp table_name_cmp q key) (Some value)) (get_seen m q)
-        ∙ sym (get-insert total (seen m) key value q))
+    sym (get_seen n q) ∙ h.0 q ∙ ap (λ b. cond b (Some value) (get table_name_cmp m q)) ((eq_by_cmp_equiv total).symm key q) ∙ ap (cond (eq_by_cmp table_name_cmp q key) (Some value)) (get_seen m q)
+    ∙ sym (get-insert total (seen m) key value q))
     ∙ ap (λ (x : TableName). fin.insert (seen m) x value) same_key ∙ ap (fin.insert (seen m) k) same_value

@@ -1,10 +1,9 @@
 -- Which records are written: those that a text can say.
-use Rattle.std.specs.Prelude.{Bool, true, false, not, ◌&&◌, ◌==◌, List, length, codes, IsTrue}
+use Rattle.std.specs.Prelude.{Bool, true, false, not, ◌&&◌, ◌==◌, List, length, codes}
 use Rattle.std.specs.Option.{option_map_or}
 use Rattle.std.specs.List.{list_all}
 use Rattle.std.specs.Cmp.Lexicographic.{pointwise}
 use Rattle.std.specs.Bool.{beq}
-use Rattle.dm_value.specs.declared.value.Value.{Value}
 use Rattle.dm_schema.specs.declared.change.Change.{Change}
 use Rattle.dm_schema.specs.declared.change.Change.TheVariants as change
 use Rattle.dm_schema.specs.declared.change.Spot.{Spot}

@@ -42,7 +42,8 @@ fn push_further_changes(
     changes: &[Change],
 ) -> Result<(), AllocError>
     ensures { OnOk result
-        (out.new.items ≡ out.old.items ++ flat_map (λ c. behind (codes ", ") (change_text c)) changes.now) }
+        (out.new.items ≡ out.old.items
+        ++ flat_map (λ c. behind (codes ", ") (change_text c)) changes.now) }
 {
     for change in changes {
         out.extend_from_slice(b", ")?;

@@ -11,8 +11,8 @@ use crate::{Known, Record};
 use dm_schema::{Change, Schema, Spot, TableName};
 use dm_table::RowOp;
 
-/// Whether a record is written: its text says all of it, so that it can be read back. It isn't empty, is about no table
-/// that is kept for other things, and says what the schema of its table asks.
+/// Whether a record is one that is written: it isn't empty, it is about no table that is kept for other things, and what it
+/// names and gives is as the schema of its table asks. Of a table that isn't known only a create is written.
 pub fn is_record(record: &Record, known: &Known) -> bool
     ensures { result ≡ is_record known.now «record».now }
 {
@@ -37,8 +37,7 @@ pub fn is_record(record: &Record, known: &Known) -> bool
 fn is_meta_table(table: &TableName) -> bool
     ensures { result ≡ is_meta_table table.now }
 {
-    table.db.as_slice() == b"dm_meta".as_slice()
-        && table.table.as_slice() == b"state".as_slice()
+    table.db.as_slice() == b"dm_meta".as_slice() && table.table.as_slice() == b"state".as_slice()
 }
 
 /// Each schema is formed.
@@ -51,7 +50,8 @@ fn is_formed(schema: &Schema) -> bool
 
 /// Whether the operations are as the schema of their table asks, if it is known.
 fn are_known_ops(known: &Known, table: &TableName, ops: &[RowOp]) -> bool
-    ensures { result ≡ option_map_or (λ layout. are_ops layout ops.now) (schema_in known.now table.now) false }
+    ensures { result
+        ≡ option_map_or (λ layout. are_ops layout ops.now) (schema_in known.now table.now) false }
 {
     match known.get(table) {
         Some(schema) => are_ops(schema, ops),
@@ -88,9 +88,7 @@ fn is_written_change(change: &Change) -> bool
             column,
             spot,
             null_written,
-        } => {
-            keeps_place(spot) && *null_written == column.nullable && is_whole_column(column)
-        }
+        } => { keeps_place(spot) && *null_written == column.nullable && is_whole_column(column) }
         Change::AddUnique { key, named } => *named && is_key(key),
         _ => false,
     }

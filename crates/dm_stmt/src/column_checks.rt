@@ -1,5 +1,5 @@
 ghost use Rattle.std.specs.Prelude.{◌≡◌, IsTrue};
-ghost use Rattle.dm_schema.specs.Kinds.{is_between, is_column, is_integer_size, is_key, is_kind, is_null, is_rule};
+ghost use Rattle.dm_schema.specs.Kinds.{is_column, is_integer_size, is_key, is_kind, is_rule};
 ghost use Rattle.dm_schema.specs.Schemas.{is_unfit_default};
 ghost use Rattle.dm_stmt.specs.Records.{is_whole_column};
 

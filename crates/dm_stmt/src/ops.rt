@@ -1,5 +1,6 @@
-ghost use Rattle.std.specs.Prelude.{◌≡◌, ◌++◌, OnOk};
+ghost use Rattle.std.specs.Prelude.{◌≡◌, ◌++◌, codes, OnOk};
 ghost use Rattle.std.specs.List.{flat_map};
+ghost use Rattle.dm_text.specs.Names.{table_name_text};
 ghost use Rattle.dm_stmt.specs.Texts.{transaction, op_text, row_text, where_text};
 
 use crate::values::{push_equations, push_row_values};
@@ -18,7 +19,8 @@ pub(crate) fn push_ops(
     ops: &[RowOp],
 ) -> Result<(), AllocError>
     ensures { OnOk result
-        (out.new.items ≡ out.old.items ++ transaction (flat_map (op_text table.now schema.now) ops.now)) }
+        (out.new.items ≡ out.old.items
+        ++ transaction (flat_map (op_text table.now schema.now) ops.now)) }
 {
     out.extend_from_slice(b"BEGIN;\n")?;
     push_each_op(alloc, out, table, schema, ops)?;
@@ -64,8 +66,10 @@ fn push_op(
             let (names, values) = (columns.as_slice(), row.as_slice());
             push_update(alloc, out, table, schema, names, key.as_slice(), values)
         }
-        RowOp::Delete { key } => push_delete(alloc, out, table, schema, key.as_slice()),
-        RowOp::Erase { key } => push_erase(alloc, out, table, schema, key.as_slice()),
+        RowOp::Delete { key } => {
+            push_delete(alloc, out, table, schema, key.as_slice(), b" LIMIT 1;\n")
+        }
+        RowOp::Erase { key } => push_delete(alloc, out, table, schema, key.as_slice(), b";\n"),
     }
 }
 
@@ -80,7 +84,8 @@ fn push_row(
     row: &[Value],
 ) -> Result<(), AllocError>
     ensures { OnOk result
-        (out.new.items ≡ out.old.items ++ row_text verb.now table.now schema.now names.now row.now) }
+        (out.new.items ≡ out.old.items
+        ++ row_text verb.now table.now schema.now names.now row.now) }
 {
     out.extend_from_slice(verb)?;
     out.extend_from_slice(b" INTO ")?;
@@ -88,7 +93,7 @@ fn push_row(
     out.push(b' ')?;
     push_name_list(out, names)?;
     out.extend_from_slice(b" VALUES ")?;
-    push_row_values(alloc, out, schema.columns(), names, row)?;
+    push_row_values(alloc, out, schema, names, row)?;
     out.extend_from_slice(b";\n")?;
     Ok(())
 }
@@ -103,49 +108,37 @@ fn push_update(
     row: &[Value],
 ) -> Result<(), AllocError>
     ensures { OnOk result
-        (out.new.items ≡ out.old.items ++ op_text table.now schema.now (RowOp.Update names.now key.now row.now)) }
+        (out.new.items ≡ out.old.items
+        ++ op_text table.now schema.now (RowOp.Update names.now key.now row.now)) }
 {
     out.extend_from_slice(b"UPDATE ")?;
     push_table_name(out, table)?;
     out.extend_from_slice(b" SET ")?;
-    push_equations(alloc, out, b",", schema.columns(), names, row)?;
+    push_equations(alloc, out, b",", schema, names, row)?;
     push_where(alloc, out, schema, key)?;
     out.extend_from_slice(b" LIMIT 1;\n")?;
     Ok(())
 }
 
-/// Adds the removal of a row that has to be there. The LIMIT tells it from the removal of one that may be gone.
+/// Adds the removal of a row. The end of the statement tells the removal of a row that has to be there, by its LIMIT, from
+/// that of one that may be gone.
 fn push_delete(
     alloc: Global,
     out: &mut Vec<u8>,
     table: &TableName,
     schema: &Schema,
     key: &[Value],
+    end: &[u8],
 ) -> Result<(), AllocError>
     ensures { OnOk result
-        (out.new.items ≡ out.old.items ++ op_text table.now schema.now (RowOp.Delete key.now)) }
+        (out.new.items ≡ out.old.items
+        ++ (codes "DELETE FROM " ++ table_name_text table.now
+        ++ where_text schema.now key.now ++ end.now)) }
 {
     out.extend_from_slice(b"DELETE FROM ")?;
     push_table_name(out, table)?;
     push_where(alloc, out, schema, key)?;
-    out.extend_from_slice(b" LIMIT 1;\n")?;
-    Ok(())
-}
-
-fn push_erase(
-    alloc: Global,
-    out: &mut Vec<u8>,
-    table: &TableName,
-    schema: &Schema,
-    key: &[Value],
-) -> Result<(), AllocError>
-    ensures { OnOk result
-        (out.new.items ≡ out.old.items ++ op_text table.now schema.now (RowOp.Erase key.now)) }
-{
-    out.extend_from_slice(b"DELETE FROM ")?;
-    push_table_name(out, table)?;
-    push_where(alloc, out, schema, key)?;
-    out.extend_from_slice(b";\n")?;
+    out.extend_from_slice(end)?;
     Ok(())
 }
 
@@ -160,5 +153,5 @@ fn push_where(
 {
     let names = schema.primary().as_slice();
     out.extend_from_slice(b" WHERE ")?;
-    push_equations(alloc, out, b" AND ", schema.columns(), names, key)
+    push_equations(alloc, out, b" AND ", schema, names, key)
 }

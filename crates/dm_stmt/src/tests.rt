@@ -1,4 +1,4 @@
-ghost use Rattle.std.specs.Prelude.{◌≡◌, not, ◌==◌, length, IfOk, IsTrue};
+ghost use Rattle.std.specs.Prelude.{◌≡◌, length, IfOk, IsTrue};
 ghost use Rattle.std.specs.List.{list_all};
 ghost use Rattle.dm_schema.specs.Kinds.{is_column, is_folded, is_key, is_kind};
 
@@ -276,7 +276,10 @@ fn tells_which_changes_are_written(rt: HostRuntime) -> Result<(), Fail> {
     let alloc = rt.alloc();
     let alteration = alter(alloc, changes(alloc, b"kcmau")?)?;
     assert!(rt; is_record(&alteration, &known(alloc)?));
-    assert_eq!(rt; written_changes(alloc, b"FCKNDMWUGOX")?.as_slice(), b"".as_slice());
+    assert_eq!(rt;
+        written_changes(alloc, b"FCKNDMWUGOX")?.as_slice(),
+        b"".as_slice()
+    );
     Ok(())
 }
 
@@ -463,6 +466,9 @@ fn written_records(alloc: Global, letters: &[u8]) -> Result<Vec<u8>, Fail> {
 fn tells_which_records_are_written(rt: HostRuntime) -> Result<(), Fail> {
     let alloc = rt.alloc();
     assert!(rt; is_record(&metas(alloc)?, &Known::new(alloc)));
-    assert_eq!(rt; written_records(alloc, b"caoAOenm")?.as_slice(), b"".as_slice());
+    assert_eq!(rt;
+        written_records(alloc, b"caoAOenm")?.as_slice(),
+        b"".as_slice()
+    );
     Ok(())
 }

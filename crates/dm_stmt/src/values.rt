@@ -1,12 +1,10 @@
 ghost use Rattle.std.specs.Prelude.{◌≡◌, ◌++◌, OnOk};
 ghost use Rattle.std.specs.List.{flat_map};
-ghost use Rattle.std.specs.Option.{option_copied};
-ghost use Rattle.dm_schema.specs.Names.{column_at};
 ghost use Rattle.dm_text.specs.Names.{behind_comma, with_commas};
 ghost use Rattle.dm_text.specs.Values.{tuple_text, value_texts};
 ghost use Rattle.dm_stmt.specs.Texts.{behind, separated, columns_named, equation, equations};
 
-use dm_schema::Column;
+use dm_schema::{Column, Schema};
 use dm_text::{push_name, push_value};
 use dm_value::{Name, Value};
 use std::alloc::{AllocError, Global};
@@ -16,15 +14,16 @@ use std::alloc::{AllocError, Global};
 pub(crate) fn push_row_values(
     alloc: Global,
     out: &mut Vec<u8>,
-    columns: &[Column],
+    schema: &Schema,
     names: &[Name],
     row: &[Value],
 ) -> Result<(), AllocError>
     ensures { OnOk result
-        (out.new.items ≡ out.old.items ++ tuple_text (columns_named columns.now names.now) row.now) }
+        (out.new.items ≡ out.old.items
+        ++ tuple_text (columns_named schema.now.columns names.now) row.now) }
 {
     out.push(b'(')?;
-    push_values(alloc, out, columns, names, row)?;
+    push_values(alloc, out, schema, names, row)?;
     out.push(b')')?;
     Ok(())
 }
@@ -33,49 +32,51 @@ pub(crate) fn push_row_values(
 fn push_values(
     alloc: Global,
     out: &mut Vec<u8>,
-    columns: &[Column],
+    schema: &Schema,
     names: &[Name],
     row: &[Value],
 ) -> Result<(), AllocError>
     ensures { OnOk result
-        (out.new.items ≡ out.old.items ++ with_commas (value_texts (columns_named columns.now names.now) row.now)) }
+        (out.new.items ≡ out.old.items
+        ++ with_commas (value_texts (columns_named schema.now.columns names.now) row.now)) }
 {
     let [name, names @ ..] = names else {
         return Ok(());
     };
-    let Some(column) = column_at(columns, name) else {
-        return push_values(alloc, out, columns, names, row);
+    let Some(column) = schema.column(name) else {
+        return push_values(alloc, out, schema, names, row);
     };
     let [value, row @ ..] = row else {
         return Ok(());
     };
     push_value(alloc, out, column.kind, value)?;
-    push_further_values(alloc, out, columns, names, row)
+    push_further_values(alloc, out, schema, names, row)
 }
 
 /// Adds values, each behind a comma.
 fn push_further_values(
     alloc: Global,
     out: &mut Vec<u8>,
-    columns: &[Column],
+    schema: &Schema,
     names: &[Name],
     row: &[Value],
 ) -> Result<(), AllocError>
     ensures { OnOk result
-        (out.new.items ≡ out.old.items ++ flat_map behind_comma (value_texts (columns_named columns.now names.now) row.now)) }
+        (out.new.items ≡ out.old.items
+        ++ flat_map behind_comma (value_texts (columns_named schema.now.columns names.now) row.now)) }
 {
     let [name, names @ ..] = names else {
         return Ok(());
     };
-    let Some(column) = column_at(columns, name) else {
-        return push_further_values(alloc, out, columns, names, row);
+    let Some(column) = schema.column(name) else {
+        return push_further_values(alloc, out, schema, names, row);
     };
     let [value, row @ ..] = row else {
         return Ok(());
     };
     out.push(b',')?;
     push_value(alloc, out, column.kind, value)?;
-    push_further_values(alloc, out, columns, names, row)
+    push_further_values(alloc, out, schema, names, row)
 }
 
 /// Adds columns with their values, as `name`=value, and a separator between them. Values stand in the order of the names;
@@ -84,24 +85,26 @@ pub(crate) fn push_equations(
     alloc: Global,
     out: &mut Vec<u8>,
     separator: &[u8],
-    columns: &[Column],
+    schema: &Schema,
     names: &[Name],
     row: &[Value],
 ) -> Result<(), AllocError>
     ensures { OnOk result
-        (out.new.items ≡ out.old.items ++ separated separator.now (equations (columns_named columns.now names.now) row.now)) }
+        (out.new.items ≡ out.old.items
+        ++ separated separator.now
+        (equations (columns_named schema.now.columns names.now) row.now)) }
 {
     let [name, names @ ..] = names else {
         return Ok(());
     };
-    let Some(column) = column_at(columns, name) else {
-        return push_equations(alloc, out, separator, columns, names, row);
+    let Some(column) = schema.column(name) else {
+        return push_equations(alloc, out, separator, schema, names, row);
     };
     let [value, row @ ..] = row else {
         return Ok(());
     };
     push_equation(alloc, out, column, value)?;
-    push_further_equations(alloc, out, separator, columns, names, row)
+    push_further_equations(alloc, out, separator, schema, names, row)
 }
 
 /// Adds columns with their values, each behind a separator.
@@ -109,25 +112,27 @@ fn push_further_equations(
     alloc: Global,
     out: &mut Vec<u8>,
     separator: &[u8],
-    columns: &[Column],
+    schema: &Schema,
     names: &[Name],
     row: &[Value],
 ) -> Result<(), AllocError>
     ensures { OnOk result
-        (out.new.items ≡ out.old.items ++ flat_map (behind separator.now) (equations (columns_named columns.now names.now) row.now)) }
+        (out.new.items ≡ out.old.items
+        ++ flat_map (behind separator.now)
+        (equations (columns_named schema.now.columns names.now) row.now)) }
 {
     let [name, names @ ..] = names else {
         return Ok(());
     };
-    let Some(column) = column_at(columns, name) else {
-        return push_further_equations(alloc, out, separator, columns, names, row);
+    let Some(column) = schema.column(name) else {
+        return push_further_equations(alloc, out, separator, schema, names, row);
     };
     let [value, row @ ..] = row else {
         return Ok(());
     };
     out.extend_from_slice(separator)?;
     push_equation(alloc, out, column, value)?;
-    push_further_equations(alloc, out, separator, columns, names, row)
+    push_further_equations(alloc, out, separator, schema, names, row)
 }
 
 fn push_equation(
@@ -141,10 +146,4 @@ fn push_equation(
     push_name(out, &column.name)?;
     out.push(b'=')?;
     push_value(alloc, out, column.kind, value)
-}
-
-fn column_at<'a>(columns: &'a [Column], name: &Name) -> Option<&'a Column>
-    ensures { option_copied result ≡ column_at columns.now name.now }
-{
-    columns.iter().find(|column| column.name == *name)
 }

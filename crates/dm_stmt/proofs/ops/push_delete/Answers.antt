@@ -6,5 +6,5 @@ use Rattle.dm_stmt.proofs.ops.push_delete.Goals as goal
 
 pub returns : goal.returns
 returns c =
-    four_joined c.args.out.now.items (codes "DELETE FROM ") (table_name_text c.args.table.now) (where_text c.args.schema.now c.args.key.now) (codes " LIMIT 1;\n") _ _ _ _ c.in_ok-extend_from_slice.ensures.items c.in_ok-push_table_name.ensures
+    four_joined c.args.out.now.items (codes "DELETE FROM ") (table_name_text c.args.table.now) (where_text c.args.schema.now c.args.key.now) c.args.end.now _ _ _ _ c.in_ok-extend_from_slice.ensures.items c.in_ok-push_table_name.ensures
     c.in_ok-push_where.ensures c.in_ok-extend_from_slice-2.ensures.items
