@@ -11,6 +11,13 @@ const ALTER: &[u8] = b"\x09\0\0\0\0\0\0\0\x01\0\0\0\0s\0ALTER TABLE t ADD c INT"
 
 const INSERT: &[u8] = b"\x09\0\0\0\0\0\0\0\x01\0\0\0\0s\0INSERT INTO t VALUES (1)";
 
+/// The log goes on in the next file, from 4 on.
+const ROTATE: &[u8] = b"\x04\0\0\0\0\0\0\0b.2";
+
+const OPEN_STRING: &[u8] = b"\x09\0\0\0\0\0\0\0\x01\0\0\0\0s\0INSERT INTO t VALUES ('x)";
+
+const NO_ON: &[u8] = b"\x09\0\0\0\0\0\0\0\x01\0\0\0\0s\0DROP INDEX k t";
+
 /// The first four bytes of a file and its format event; what isn't read of it is 0.
 fn begin(alloc: Global) -> Result<Vec<u8>, AllocError> {
     let mut file = [0; 123];
@@ -25,6 +32,15 @@ fn begin(alloc: Global) -> Result<Vec<u8>, AllocError> {
     body[79..82].copy_from_slice(&[8, 8, 8]);
     body[86..89].copy_from_slice(&[10, 10, 10]);
     file.to_vec(alloc)
+}
+
+/// The same with another byte at a place.
+fn begin_with(alloc: Global, place: usize, byte: u8) -> Result<Vec<u8>, AllocError> {
+    let mut file = begin(alloc)?;
+    if let Some(old) = file.get_mut(place) {
+        *old = byte;
+    }
+    Ok(file)
 }
 
 fn push_event(file: &mut Vec<u8>, kind: u8, body: &[u8]) -> Result<(), Fail> {
@@ -142,5 +158,76 @@ fn ends_at_a_fault(rt: HostRuntime) -> Result<(), Fail> {
     let text = read(alloc, &torn, &second_file(alloc)?, 4)?;
     let all = "7 4 nothing\n7 123 nothing\n7 160 rows of 123\n7 196 fault Size\n";
     assert_eq!(rt; text.as_str(), all);
+    Ok(())
+}
+
+/// What is read where the first file is this one.
+fn read_first(alloc: Global, first: &[u8], start: u32) -> Result<String, Fail> {
+    read(alloc, first, &begin(alloc)?, start)
+}
+
+/// The first four bytes end in `m`; the event at 4 has type 16, which stands at 8; its body, from 23 on, says version 3.
+#[test]
+fn ends_at_another_format(rt: HostRuntime) -> Result<(), Fail> {
+    let alloc = rt.alloc();
+    let magic = read_first(alloc, &begin_with(alloc, 3, b'm')?, 4)?;
+    assert_eq!(rt; magic.as_str(), "7 0 fault Magic\n");
+    let kind = read_first(alloc, &begin_with(alloc, 8, 16)?, 4)?;
+    assert_eq!(rt; kind.as_str(), "7 4 fault NoFormat\n");
+    let version = read_first(alloc, &begin_with(alloc, 23, 3)?, 4)?;
+    assert_eq!(rt; version.as_str(), "7 4 fault Format\n");
+    Ok(())
+}
+
+/// No event ends at 161: the table map's is 123 + 19 + 18 = 160.
+#[test]
+fn ends_at_a_start_within_an_event(rt: HostRuntime) -> Result<(), Fail> {
+    let alloc = rt.alloc();
+    let text = read_first(alloc, &first_file(alloc)?, 161)?;
+    assert_eq!(rt; text.as_str(), "7 4 nothing\n7 161 fault Start\n");
+    Ok(())
+}
+
+/// A rotate event from 123 to 123 + 19 + 11 = 153, and a statement behind it.
+fn rotated(alloc: Global) -> Result<Vec<u8>, Fail> {
+    let mut file = begin(alloc)?;
+    push_event(&mut file, 4, ROTATE)?;
+    push_event(&mut file, 2, ALTER)?;
+    Ok(file)
+}
+
+const ROTATED: &str = "7 4 nothing
+7 123 nothing
+7 153 statement of 23
+8 4 nothing
+8 123 nothing
+8 160 rows of 123
+";
+
+/// The last file is written on: its statement from 196 to 253 isn't whole, which is no fault.
+#[test]
+fn goes_on_to_an_open_tail(rt: HostRuntime) -> Result<(), Fail> {
+    let alloc = rt.alloc();
+    let mut open = first_file(alloc)?;
+    open.truncate(252);
+    let text = read(alloc, &rotated(alloc)?, &open, 4)?;
+    assert_eq!(rt; text.as_str(), ROTATED);
+    Ok(())
+}
+
+/// Statements at 123 and at 123 + 19 + 15 + 25 = 182.
+fn unreadable(alloc: Global) -> Result<Vec<u8>, Fail> {
+    let mut file = begin(alloc)?;
+    push_event(&mut file, 2, OPEN_STRING)?;
+    push_event(&mut file, 2, NO_ON)?;
+    Ok(file)
+}
+
+#[test]
+fn ends_at_heads_that_cannot_be_read(rt: HostRuntime) -> Result<(), Fail> {
+    let alloc = rt.alloc();
+    let text = read_first(alloc, &unreadable(alloc)?, 4)?;
+    let first = "7 4 nothing\n7 123 Lex\n7 182 Syntax\n8 4 nothing\n";
+    assert_eq!(rt; text.as_str(), first);
     Ok(())
 }

@@ -2,6 +2,7 @@ pub mod Numbers
 pub mod Firsts
 pub mod Finishing
 pub mod ReadLaws
+pub mod FitLaws
 pub mod Dumps
 pub mod LogLemmas
 pub mod Readings

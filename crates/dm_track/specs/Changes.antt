@@ -2,6 +2,8 @@
 use Rattle.std.specs.Prelude.{ℕ, zero, suc, Bool, true, false, ◌==◌, ◌&&◌, List, [], length, slice_get, Option, Some, None, is_some}
 use Rattle.std.specs.Option.{option_map, option_map_or}
 use Rattle.std.specs.List.{find, list_all, range_with_len}
+use Rattle.std.specs.Cmp.Lexicographic.{pointwise}
+use Rattle.dm_schema.specs.Fits.{fits}
 use Rattle.dm_schema.specs.Layout.{Layout}
 use Rattle.dm_schema.specs.declared.row_change.RowChange.{RowChange}
 use Rattle.dm_schema.specs.declared.row_change.RowChange.TheVariants as change
@@ -25,6 +27,12 @@ orders_of all number = option_map_or (λ f. f.orders) (find (λ f. f.number == n
 
 abbrev pub dumped : List ℕ → List InsertOrder → ℕ → Layout → Option RowChange
 dumped file orders at layout = option_map change.Insert (dump.row_in_force file orders layout at)
+
+-- each row of a change has a value for each column, which fits
+abbrev pub change_fits : Layout → RowChange → Bool
+change_fits layout (change.Insert row) = pointwise fits row layout.columns
+change_fits layout (change.Update old after) = pointwise fits old layout.columns && pointwise fits after layout.columns
+change_fits layout (change.Delete row) = pointwise fits row layout.columns
 
 -- Items.
 

@@ -1,13 +1,14 @@
 //! The change of a row that an item stands for, read again from its place.
 
-ghost use Rattle.std.specs.Prelude.{◌≡◌, ◌==◌, ◌+◌, ◌<◌, ◌≤◌, ◌^◌, Some, drop, length, slice_get, slice_range, IfOk, IsTrue, MatchOption};
+ghost use Rattle.std.specs.Prelude.{◌≡◌, ◌==◌, ◌+◌, ◌-◌, ◌<◌, ◌≤◌, ◌^◌, Some, drop, length, slice_get, slice_range, IfOk, IsTrue, MatchOption};
 ghost use Rattle.std.specs.List.{find};
 ghost use Rattle.std.specs.Option.{option_copied};
 ghost use Rattle.dm_binlog.specs.Framing.{event_size};
 ghost use Rattle.dm_dump.specs.Orders.{order_at};
 ghost use Rattle.dm_files.specs.Files.{bytes_of, are_short};
-ghost use Rattle.dm_track.specs.Changes.{change_at, change_of, dumped, is_row, orders_of};
+ghost use Rattle.dm_track.specs.Changes.{change_at, change_fits, change_of, dumped, is_row, orders_of};
 ghost use Rattle.dm_decode.specs.Rows.{is_memory, row_of};
+ghost use Rattle.dm_track.specs.Histories.{schema_at};
 ghost use Rattle.dm_track.specs.Steps.{read_of};
 ghost use Rattle.dm_walk.specs.Changes.{change_in, end_of, logged_change, map_at};
 
@@ -241,7 +242,8 @@ pub fn change_at(
     number: u64,
 ) -> Result<RowChange, AllocError>
     requires { IsTrue (is_row inputs.now.histories shard number) }
-    ensures { IfOk result (λ change. MatchOption (slice_get inputs.now.histories shard) ⊥ (λ h. change_of inputs.now.files h number ≡ Some change)) }
+    ensures change { IfOk result (λ change. MatchOption (slice_get inputs.now.histories shard) ⊥ (λ h. change_of inputs.now.files h number ≡ Some change)) }
+    ensures fits { IfOk result (λ change. MatchOption (slice_get inputs.now.histories shard) ⊥ (λ h. IsTrue (change_fits (schema_at h (number - 1)) change))) }
 {
     let files = inputs.files().as_slice();
     let Some(history) = inputs.histories().get(u64::from(shard)) else {
