@@ -1,3 +1,7 @@
+mod effects;
+mod filters;
+mod images;
+
 use crate::{Item, Place, Track, begun, walk};
 use dm_ddl::{Statement, read_statement};
 use dm_list::Sequence;
@@ -56,10 +60,13 @@ fn file_of(alloc: Global) -> Result<Vec<u8>, Fail> {
     Ok(file)
 }
 
-/// A table of `s` without rows.
-fn track_of(alloc: Global, table: &[u8]) -> Result<Track, Fail> {
-    let create = b"CREATE TABLE t (id INT NOT NULL PRIMARY KEY, v VARCHAR(20))";
-    let Ok(Statement::Create { schema, .. }) = read_statement(alloc, create) else {
+const CREATE: &str = "CREATE TABLE t (id INT NOT NULL PRIMARY KEY, v VARCHAR(20))";
+
+/// A table of `s` without rows, which was created so.
+fn track_of(alloc: Global, create: &str, table: &[u8]) -> Result<Track, Fail> {
+    let text = create.as_bytes();
+    u32::try_from(text.len())?;
+    let Ok(Statement::Create { schema, .. }) = read_statement(alloc, text) else {
         return Err("no schema".into());
     };
     let own = TableName {
@@ -94,35 +101,75 @@ fn write_track(text: &mut String, track: &Track) -> Result<(), Fail> {
         }
     }
     write!(text, "{} more", track.later.len())?;
-    match track.fault {
-        None => write!(text, "\n")?,
-        Some(fault) => write!(text, ", {:?} at {}\n", fault.cause, fault.at)?,
+    if let Some(fault) = track.fault {
+        write!(text, ", {:?} at {}", fault.cause, fault.at)?;
     }
     Ok(())
 }
 
-/// What a walk over the file gives for `s`.`t` and `s`.`u`.
-fn walked(alloc: Global) -> Result<String, Fail> {
-    let file = file_of(alloc)?;
+/// What a walk over a file gives for some tables, a line each.
+fn write_walked(
+    alloc: Global,
+    text: &mut String,
+    rules: &Rules,
+    tracks: Vec<Track>,
+    file: &[u8],
+) -> Result<(), Fail> {
     u32::try_from(file.len())?;
-    let mut tracks = Vec::new(alloc);
-    tracks.push(track_of(alloc, b"t")?)?;
-    tracks.push(track_of(alloc, b"u")?)?;
     let files = [LogFile {
         number: 0,
-        bytes: &file,
+        bytes: file,
     }];
-    let mut text = String::new(alloc);
-    for track in &walk(alloc, &no_rules(alloc), tracks, &files, 4)? {
-        write_track(&mut text, track)?;
+    let mut between = "";
+    for track in &walk(alloc, rules, tracks, &files, 4)? {
+        text.push_str(between)?;
+        write_track(text, track)?;
+        between = "\n";
     }
+    Ok(())
+}
+
+/// The same for `s`.`t` alone, which was created so.
+fn write_one(
+    alloc: Global,
+    text: &mut String,
+    rules: &Rules,
+    create: &str,
+    file: &[u8],
+) -> Result<(), Fail> {
+    let mut tracks = Vec::new(alloc);
+    tracks.push(track_of(alloc, create, b"t")?)?;
+    write_walked(alloc, text, rules, tracks, file)
+}
+
+/// A QUERY_EVENT of a statement that was written in `s`.
+fn push_statement(alloc: Global, file: &mut Vec<u8>, statement: &str) -> Result<(), Fail> {
+    let mut body = b"\x09\0\0\0\0\0\0\0\x01\0\0\0\0s\0".to_vec(alloc)?;
+    body.extend_from_slice(statement.as_bytes())?;
+    push_event(file, 2, &body)
+}
+
+/// The statement that a line of a table gives.
+fn statement_in(line: &str) -> &str {
+    match line.split_once(" => ") {
+        Some((statement, _)) => statement,
+        None => line,
+    }
+}
+
+/// What a walk over the file gives for `s`.`t` and `s`.`u`.
+fn walked(alloc: Global) -> Result<String, Fail> {
+    let mut tracks = Vec::new(alloc);
+    tracks.push(track_of(alloc, CREATE, b"t")?)?;
+    tracks.push(track_of(alloc, CREATE, b"u")?)?;
+    let mut text = String::new(alloc);
+    write_walked(alloc, &mut text, &no_rules(alloc), tracks, &file_of(alloc)?)?;
     Ok(text)
 }
 
 const WALKED: &str =
     "Write 194 of 163 by 123; Write 201 of 163 by 123; Statement 206 of 206 by 0; 1 more, Unsupported at 263
-0 more
-";
+0 more";
 
 #[test]
 fn walks_over_rows_and_statements(rt: HostRuntime) -> Result<(), Fail> {
