@@ -32,8 +32,8 @@ fn names_row(schema: &Schema, names: &[Name], row: &[Value]) -> bool
     ensures { result ≡ names_row schema.now names.now row.now }
 {
     !names.is_empty()
-        && !names_repeat(names)
         && all_columns(schema.columns(), names)
+        && !names_repeat(names)
         && fit_columns(schema.columns(), names, row)
 }
 
@@ -72,10 +72,14 @@ fn column_at<'a>(columns: &'a [Column], name: &Name) -> Option<&'a Column>
 fn names_repeat(names: &[Name]) -> bool
     ensures { result ≡ names_repeat names.now }
 {
-    match names {
-        [] => false,
-        [first, rest @ ..] => has_name(rest, first) || names_repeat(rest),
+    let mut rest = names;
+    while let [first, behind @ ..] = rest {
+        if has_name(behind, first) {
+            return true;
+        }
+        rest = behind;
     }
+    false
 }
 
 fn has_name(names: &[Name], name: &Name) -> bool

@@ -1,5 +1,0 @@
-use Rattle.std.proofs.Common.{length}
-use Rattle.dm_stmt.proofs.op_checks.+names_repeat.Given as goal
-
-abbrev pub decreases-names_repeat : goal.decreases-names_repeat
-decreases-names_repeat l = length l.names.now
