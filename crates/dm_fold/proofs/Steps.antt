@@ -16,7 +16,7 @@ module _ (files : List NamedFile) (h : History) where
   unfolding folded
   none_done = refl
 
-  next : (n : ℕ) → folded files h (suc n) ≡ and_item (suc n) (folded files h n) (with_item files h (suc n))
+  pub next : (n : ℕ) → folded files h (suc n) ≡ and_item (suc n) (folded files h n) (with_item files h (suc n))
   unfolding folded
   next n = refl
 
