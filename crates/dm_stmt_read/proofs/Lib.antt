@@ -1,0 +1,4 @@
+pub mod KindTexts
+pub mod Loops
+pub mod Taking
+pub mod Tokens

@@ -1,0 +1,3 @@
+pub mod Columns
+pub mod Readers
+pub mod Reading
