@@ -8,7 +8,7 @@ use Rattle.dm_stmt_read.specs.Readers.{Reader, and_then, just, before, many, up_
 
 -- Words.
 
-same_bytes : (word : List ℕ) → pointwise nat_eq word word ≡ true
+pub same_bytes : (word : List ℕ) → pointwise nat_eq word word ≡ true
 same_bytes [] = refl
 same_bytes (b ∷ word) = rw (eq-eqb b b refl) (same_bytes word)
 

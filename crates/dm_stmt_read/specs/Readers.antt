@@ -1,6 +1,6 @@
 -- How the reader goes over a text: functions from what is left of it to what is read and what is left behind that, or to
 -- nothing. They serve the proof alone: what is promised stands in `Reading`.
-use Rattle.std.specs.Prelude.{◌≡◌, ℕ, zero, suc, ℤ, pos, negsuc, nat_eq, nat_lt, Bool, true, false, List, [], ◌∷◌, ◌++◌, codes, drop, length, slice_range, Option, Some, None, Result, Ok, Err, if◌then◌else◌}
+use Rattle.std.specs.Prelude.{◌≡◌, ℕ, zero, suc, ℤ, pos, negsuc, nat_eq, nat_lt, Bool, true, false, List, [], ◌∷◌, ◌++◌, codes, map, drop, length, slice_range, Option, Some, None, Result, Ok, Err, if◌then◌else◌}
 use Rattle.std.specs.Option.{option_map}
 use Rattle.std.specs.List.{starts_with}
 use Rattle.dm_value.specs.declared.value.Value.{Value}
@@ -66,6 +66,18 @@ up_to next most made = many next most >>= λ xs. just (made ++ xs)
 -- all there are, behind others; each takes a byte at least
 unfoldable pub further : {A : Type 0} → Reader (Option A) → List A → Reader (List A)
 further next made left = up_to next (length left) made left
+
+-- the same of pairs, whose parts go behind others
+abbrev pub pairs_up_to : {A B : Type 0} → Reader (Option (A × B)) → ℕ → List A → List B → Reader (List A × List B)
+pairs_up_to next most xs ys = many next most >>= λ ps. just (xs ++ map (λ p. p.0) ps, ys ++ map (λ p. p.1) ps)
+
+unfoldable pub further_pairs : {A B : Type 0} → Reader (Option (A × B)) → List A → List B → Reader (List A × List B)
+further_pairs next xs ys left = pairs_up_to next (length left) xs ys left
+
+-- a value for each element, the first behind one mark and the others behind another
+unfoldable pub each : {A B : Type 0} → (List ℕ → A → Reader B) → List ℕ → List ℕ → List A → Reader (List B)
+each step mark other [] = just []
+each step mark other (x ∷ xs) = step mark x >>= λ y. each step other other xs >>= λ ys. just (y ∷ ys)
 
 -- another one, if a test says so
 abbrev pub one_if : {A : Type 0} → Reader A → Bool → Reader (Option A)
