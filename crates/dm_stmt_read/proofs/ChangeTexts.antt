@@ -41,9 +41,9 @@ good_columns (c ∷ columns) all fit typed =
     and_from (is_good c) (list_all is_good columns)
     (and_from (is_column c && not (is_unfit_default c)) (is_typed_column c) (and_from (is_column c) (not (is_unfit_default c)) alls.0 fits.0) types.0)
     (good_columns columns alls.1 fits.1 types.1) where
-  both_fit : (a b : Bool) → not (a || b) ≡ true → (not a ≡ true) × (not b ≡ true)
-  both_fit true b h = absurd cc
-  both_fit false b h = (refl, h)
+      both_fit : (a b : Bool) → not (a || b) ≡ true → (not a ≡ true) × (not b ≡ true)
+      both_fit true b h = absurd cc
+      both_fit false b h = (refl, h)
 
 takes_layout : (layout : Layout) (left : List ℕ) → is_formed layout ≡ true → list_all is_typed_column layout.columns ≡ true
     → read_layout (flat_map column_part layout.columns ++ (codes "PRIMARY KEY " ++ (name_list layout.primary ++ (flat_map unique_part layout.uniques ++ (codes ");\n" ++ left))))) ≡ Some (layout, codes ");\n" ++ left)
@@ -52,10 +52,12 @@ takes_layout layout left formed typed =
     let uniques : List ℕ = flat_map unique_part layout.uniques ++ (codes ");\n" ++ left) in
     let own = is_whole layout formed in
     let good = good_columns layout.columns own.columns own.fit typed in
-    rw (takes_further next_column column_part is_good (λ rest. Unit {0}) (codes "PRIMARY KEY " ++ (name_list layout.primary ++ uniques)) (name_list layout.primary ++ uniques) (columns_taken (name_list layout.primary ++ uniques)) (omega arith) [] layout.columns good,
+    rw (
+      takes_further next_column column_part is_good (λ rest. Unit {0}) (codes "PRIMARY KEY " ++ (name_list layout.primary ++ uniques)) (name_list layout.primary ++ uniques) (columns_taken (name_list layout.primary ++ uniques)) (omega arith) [] layout.columns good,
       takes_names layout.primary uniques (own.some),
       takes_further next_unique unique_part is_key (λ rest. Unit {0}) (codes ");\n" ++ left) (codes ");\n" ++ left) (uniques_taken left) (omega arith) [] layout.uniques (own.keys),
-      formed_is_joined layout formed) refl
+      formed_is_joined layout formed,
+    ) refl
 
 four : (a b c d : List ℕ) → ((a ++ b) ++ c) ++ d ≡ a ++ (b ++ (c ++ d))
 four a b c d = append_assoc (a ++ b) c d ∙ append_assoc a b (c ++ d)
@@ -123,8 +125,12 @@ takes_drop own left ends =
 takes_modify : (c : Column) (left : List ℕ) → is_good c ≡ true → EndsColumn left → change (codes "MODIFY COLUMN " ++ (column_text c ++ left)) ≡ Some (change_of.Modify c spot.Keep c.nullable, left)
 unfolding change
 takes_modify c left good ends =
-    rw (passes_word (codes "ADD COLUMN ") (codes "MODIFY COLUMN " ++ (column_text c ++ left)) refl, passes_word (codes "DROP COLUMN ") (codes "MODIFY COLUMN " ++ (column_text c ++ left)) refl,
-      takes_word (codes "MODIFY COLUMN ") (column_text c ++ left), takes_column c left good ends) refl
+    rw (
+      passes_word (codes "ADD COLUMN ") (codes "MODIFY COLUMN " ++ (column_text c ++ left)) refl,
+      passes_word (codes "DROP COLUMN ") (codes "MODIFY COLUMN " ++ (column_text c ++ left)) refl,
+      takes_word (codes "MODIFY COLUMN ") (column_text c ++ left),
+      takes_column c left good ends,
+    ) refl
 
 takes_change : (c : Change) (left : List ℕ) → is_written_change c ≡ true → is_typed_change c ≡ true → ends_column left ≡ true → change (change_text c ++ left) ≡ Some (c, left)
 takes_change (change_of.Add column spot.Last) left is typed ends = takes_add column left (and_from (is_whole_column column) (is_typed_column column) is typed) (column_ends left ends)
@@ -175,12 +181,16 @@ takes_alter t c cs good =
     let parts = and_parts (is_good_change c) (list_all is_good_change cs) good in
     let first = and_parts (is_written_change c) (is_typed_change c) parts.0 in
     let rest : List ℕ = flat_map (λ c. codes ", " ++ change_text c) cs ++ codes ";\n" in
-    rw (takes_table_name t (32 ∷ (change_text c ++ rest)) refl, takes_word (codes " ") (change_text c ++ rest), takes_change c rest first.0 first.1 (more_end cs),
+    rw (
+      takes_table_name t (32 ∷ (change_text c ++ rest)) refl,
+      takes_word (codes " ") (change_text c ++ rest),
+      takes_change c rest first.0 first.1 (more_end cs),
       takes_further next_change (λ c. codes ", " ++ change_text c) is_good_change (λ left. ends_column left ≡ true) (codes ";\n") (codes ";\n") changes_taken (omega arith) (c ∷ []) cs parts.1,
-      takes_word (codes ";\n") []) refl
+      takes_word (codes ";\n") [],
+    ) refl
 
 pub alter_shape : (t : TableName) (c : Change) (cs : List Change) → alter_text t (c ∷ cs) ≡ codes "ALTER TABLE " ++ (table_name_text t ++ (32 ∷ (change_text c ++ (flat_map (λ c. codes ", " ++ change_text c) cs ++ codes ";\n"))))
 alter_shape t c cs =
     four (codes "ALTER TABLE ") (table_name_text t) (32 ∷ (change_text c ++ flat_map (behind (codes ", ")) (map change_text cs))) (codes ";\n")
     ∙ ap (λ xs. codes "ALTER TABLE " ++ (table_name_text t ++ (32 ∷ xs)))
-      (append_assoc (change_text c) (flat_map (behind (codes ", ")) (map change_text cs)) (codes ";\n") ∙ ap (λ xs. change_text c ++ (xs ++ codes ";\n")) (mapped (behind (codes ", ")) change_text cs))
+    (append_assoc (change_text c) (flat_map (behind (codes ", ")) (map change_text cs)) (codes ";\n") ∙ ap (λ xs. change_text c ++ (xs ++ codes ";\n")) (mapped (behind (codes ", ")) change_text cs))

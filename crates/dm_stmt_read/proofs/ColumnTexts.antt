@@ -66,12 +66,15 @@ takes_names (first ∷ own) behind some =
     ∙ ap (λ xs. quoted first ++ (xs ++ 41 ∷ behind)) (mapped behind_comma quoted own) in
     let ends : starts 96 (rest ++ 41 ∷ behind) ≡ false = no_quote own in
     ap (λ xs. names (40 ∷ xs)) shape
-    ∙ (rw (takes_word (codes "(") (quoted first ++ (rest ++ 41 ∷ behind)), takes_name first (rest ++ 41 ∷ behind) ends,
-        takes_further next_name (λ n. 44 ∷ quoted n) (λ _. true) NoName (41 ∷ behind) (41 ∷ behind) (names_taken behind) (omega arith) (first ∷ []) own (all_pass own),
-        takes_word (codes ")") behind) refl) where
-  no_quote : (own : List (List ℕ)) → starts 96 (flat_map (λ n. 44 ∷ quoted n) own ++ 41 ∷ behind) ≡ false
-  no_quote [] = refl
-  no_quote (n ∷ own) = refl
+    ∙ (rw (
+      takes_word (codes "(") (quoted first ++ (rest ++ 41 ∷ behind)),
+      takes_name first (rest ++ 41 ∷ behind) ends,
+      takes_further next_name (λ n. 44 ∷ quoted n) (λ _. true) NoName (41 ∷ behind) (41 ∷ behind) (names_taken behind) (omega arith) (first ∷ []) own (all_pass own),
+      takes_word (codes ")") behind,
+    ) refl) where
+      no_quote : (own : List (List ℕ)) → starts 96 (flat_map (λ n. 44 ∷ quoted n) own ++ 41 ∷ behind) ≡ false
+      no_quote [] = refl
+      no_quote (n ∷ own) = refl
 
 pub takes_table_name : (t : TableName) (behind : List ℕ) → starts 96 behind ≡ false → table_name (table_name_text t ++ behind) ≡ Some (t, behind)
 unfolding table_name
@@ -116,6 +119,7 @@ value_no_clock k (variant.Int (negsuc n)) behind = refl
 value_no_clock k (variant.Dec d) behind = by (int_lt d.digits (pos 0)) where
   whole : ℕ
   whole = unsigned_abs d.digits / 10 ^ d.scale
+
   by : (minus : Bool) → IsNoClock (((cond minus (45 ∷ []) [] ++ decimal (unsigned_abs d.digits / 10 ^ d.scale)) ++ places_text d.scale (unsigned_abs d.digits)) ++ behind)
   by true = refl
   by false =
@@ -164,8 +168,11 @@ takes_default k nulls default.Nothing behind is good ends = rw (passes_word (cod
 takes_default k nulls (default.Const v) behind is good ends =
     rw (takes_word (codes " DEFAULT ") (value_text k v ++ behind), takes_constant k nulls v behind is good.0 good.1 ends) refl
 takes_default k nulls default.Now behind is good ends =
-    rw (takes_word (codes " DEFAULT ") (codes "CURRENT_TIMESTAMP" ++ (fraction_text (fraction_digits k) ++ behind)), takes_word (codes "CURRENT_TIMESTAMP") (fraction_text (fraction_digits k) ++ behind),
-      takes_fraction (fraction_digits k) behind (fraction_few k is) ends.no_bracket) refl
+    rw (
+      takes_word (codes " DEFAULT ") (codes "CURRENT_TIMESTAMP" ++ (fraction_text (fraction_digits k) ++ behind)),
+      takes_word (codes "CURRENT_TIMESTAMP") (fraction_text (fraction_digits k) ++ behind),
+      takes_fraction (fraction_digits k) behind (fraction_few k is) ends.no_bracket,
+    ) refl
 
 -- Columns.
 
@@ -206,8 +213,13 @@ takes_column c behind good ends =
     let rule = good_rule c first.1 typed.1 in
     let tail : List ℕ = default_text c.kind c.default_rule ++ behind in
     ap column (four_texts (quoted c.name) (32 ∷ kind_text c.kind) (nullable_text c.nullable) (default_text c.kind c.default_rule) behind)
-    ∙ (rw (takes_name c.name (32 ∷ (kind_text c.kind ++ (nullable_text c.nullable ++ tail))) refl, takes_word (codes " ") (kind_text c.kind ++ (nullable_text c.nullable ++ tail)),
-        kind_before c.kind c.nullable tail is typed.0, takes_nullable c.nullable tail, takes_default c.kind c.nullable c.default_rule behind is rule ends) refl)
+    ∙ (rw (
+      takes_name c.name (32 ∷ (kind_text c.kind ++ (nullable_text c.nullable ++ tail))) refl,
+      takes_word (codes " ") (kind_text c.kind ++ (nullable_text c.nullable ++ tail)),
+      kind_before c.kind c.nullable tail is typed.0,
+      takes_nullable c.nullable tail,
+      takes_default c.kind c.nullable c.default_rule behind is rule ends,
+    ) refl)
 
 -- Keys.
 

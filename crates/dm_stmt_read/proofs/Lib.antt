@@ -1,6 +1,7 @@
 pub mod ChangeTexts
 pub mod ColumnTexts
 pub mod KindTexts
+pub mod Laws
 pub mod LineTexts
 pub mod Loops
 pub mod OpTexts

@@ -93,8 +93,11 @@ takes_cells columns mark (n ∷ ns) (c ∷ cs) (v ∷ vs) left named fit typed f
     let typed_parts = and_parts (has_bytes v) (are_typed vs) typed in
     let rest : List ℕ = marked (codes ",") cs vs ++ left in
     ap (cells columns mark (n ∷ ns)) (three mark (value_text c.kind v) (marked (codes ",") cs vs) left)
-    ∙ (rw (takes_word mark (value_text c.kind v ++ rest), takes_cell columns n c v rest named.0 named.1 fit_parts.0 typed_parts.0 (marked_follows cs vs left follows),
-        takes_cells columns (codes ",") ns cs vs left named.3 fit_parts.1 typed_parts.1 follows) refl)
+    ∙ (rw (
+      takes_word mark (value_text c.kind v ++ rest),
+      takes_cell columns n c v rest named.0 named.1 fit_parts.0 typed_parts.0 (marked_follows cs vs left follows),
+      takes_cells columns (codes ",") ns cs vs left named.3 fit_parts.1 typed_parts.1 follows,
+    ) refl)
 
 commas_marked : (cs : List Column) (vs : List Value) → flat_map behind_comma (value_texts cs vs) ≡ marked (codes ",") cs vs
 commas_marked [] vs = refl
@@ -140,8 +143,10 @@ takes_conditions columns mark (n ∷ ns) (c ∷ cs) (v ∷ vs) left named fit ty
     let typed_parts = and_parts (has_bytes v) (are_typed vs) typed in
     let rest : List ℕ = stated (codes " AND ") cs vs ++ left in
     ap (conditions columns mark (n ∷ ns)) (three mark (equation c v) (stated (codes " AND ") cs vs) left)
-    ∙ (rw (takes_condition columns mark n c v rest named.0 named.1 fit_parts.0 typed_parts.0 (stated_follows cs vs left follows),
-        takes_conditions columns (codes " AND ") ns cs vs left named.3 fit_parts.1 typed_parts.1 follows) refl)
+    ∙ (rw (
+      takes_condition columns mark n c v rest named.0 named.1 fit_parts.0 typed_parts.0 (stated_follows cs vs left follows),
+      takes_conditions columns (codes " AND ") ns cs vs left named.3 fit_parts.1 typed_parts.1 follows,
+    ) refl)
 
 ands_stated : (cs : List Column) (vs : List Value) → flat_map (behind (codes " AND ")) (equations cs vs) ≡ stated (codes " AND ") cs vs
 ands_stated [] vs = refl

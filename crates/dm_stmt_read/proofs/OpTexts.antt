@@ -22,7 +22,7 @@ use Rattle.dm_stmt.specs.Texts.{separated, columns_named, equations, where_text,
 use Rattle.dm_stmt_read.specs.Reading.{are_typed, is_typed_op}
 use Rattle.dm_stmt_read.specs.declared.ops.Verb.{Verb}
 use Rattle.dm_stmt_read.specs.declared.ops.Verb.TheVariants as verb_of
-use Rattle.dm_stmt_read.specs.Readers.{Reader, and_then, just, accept, expect, names, table_name, further}
+use Rattle.dm_stmt_read.specs.Readers.{and_then, just, accept, expect}
 use Rattle.dm_stmt_read.specs.Lines.{read_verb, head, cells, row, conditions, key, assignments, update, delete, op_by, op, next_op}
 use Rattle.dm_stmt_read.proofs.Taking.{takes_word, passes_word, Takes}
 use Rattle.dm_stmt_read.proofs.ColumnTexts.{takes_names, takes_table_name}
@@ -62,7 +62,7 @@ is_whole layout formed =
       keys = (and_parts (list_all is_column cs) (list_all is_key us) parts.0).1;
       fit = none.2;
       some = none.0;
-      named = (and_parts (all_columns cs ps) (list_all (λ k. all_columns cs k.columns) us) (twice (all_columns cs ps && list_all (λ k. all_columns cs k.columns) us) none.1)).0
+      named = (and_parts (all_columns cs ps) (list_all (λ k. all_columns cs k.columns) us) (twice (all_columns cs ps && list_all (λ k. all_columns cs k.columns) us) none.1)).0;
     }
 
 -- Verbs.
@@ -155,8 +155,12 @@ takes_update layout names values new left formed fits fit typed typed_new =
     let named = are_named layout.columns names formed.columns parts.1 in
     let tail : List ℕ = codes " LIMIT 1;\n" ++ left in
     let inner : List ℕ = codes "WHERE " ++ (separated (codes " AND ") (equations (columns_named layout.columns layout.primary) values) ++ tail) in
-    rw (takes_word (codes " SET ") (with_commas (equations cs new) ++ (where_text layout values ++ tail)), takes_assignments layout.columns names cs new inner some named last.1 typed_new,
-      takes_key layout values tail formed fit typed refl, takes_word (codes " LIMIT 1;\n") left) refl
+    rw (
+      takes_word (codes " SET ") (with_commas (equations cs new) ++ (where_text layout values ++ tail)),
+      takes_assignments layout.columns names cs new inner some named last.1 typed_new,
+      takes_key layout values tail formed fit typed refl,
+      takes_word (codes " LIMIT 1;\n") left,
+    ) refl
 
 takes_delete : (layout : Layout) (values : List Value) (left : List ℕ) → IsWhole layout → is_key_row layout values ≡ true → are_typed values ≡ true → delete layout (where_text layout values ++ (codes " LIMIT 1;\n" ++ left)) ≡ Some (op_of.Delete values, left)
 unfolding delete

@@ -58,8 +58,14 @@ unfolding meta read_pair
 takes_meta pair left few few_too =
     let tail : List ℕ = string_text pair.text ++ (codes ");\n" ++ left) in
     ap meta (meta_shape pair left)
-    ∙ (rw (meta_head (string_text pair.name ++ (44 ∷ tail)), takes_word (codes " (`name`,`text`) VALUES (") (string_text pair.name ++ (44 ∷ tail)), takes_string pair.name (44 ∷ tail) few refl, takes_word (codes ",") tail,
-        takes_string pair.text (codes ");\n" ++ left) few_too refl, takes_word (codes ");\n") left) refl)
+    ∙ (rw (
+      meta_head (string_text pair.name ++ (44 ∷ tail)),
+      takes_word (codes " (`name`,`text`) VALUES (") (string_text pair.name ++ (44 ∷ tail)),
+      takes_string pair.name (44 ∷ tail) few refl,
+      takes_word (codes ",") tail,
+      takes_string pair.text (codes ");\n" ++ left) few_too refl,
+      takes_word (codes ");\n") left,
+    ) refl)
 
 -- a text under a name that is short enough to be read
 abbrev is_short : Meta → Bool
@@ -168,7 +174,7 @@ takes_apply known t layout (o ∷ ops) other is some are typed =
     let shape : all ++ codes "COMMIT;\n" ≡ op_text t layout o ++ (flat_map (op_text t layout) ops ++ codes "COMMIT;\n") = append_assoc (op_text t layout o) (flat_map (op_text t layout) ops) (codes "COMMIT;\n") in
     read_lines known (verb_for o) t (all ++ codes "COMMIT;\n") (32 ∷ rest_of layout o (flat_map (op_text t layout) ops ++ codes "COMMIT;\n")) (ap head shape ∙ op_head t layout o (flat_map (op_text t layout) ops ++ codes "COMMIT;\n"))
     ∙ ops_read known t layout (all ++ codes "COMMIT;\n") [] (o ∷ ops) other is
-      (takes_further (next_op layout) (op_text t layout) (is_good_op layout) (λ rest. Unit {0}) (codes "COMMIT;\n") [] (ops_taken t layout [] (is_whole layout parts.0)) (omega arith) [] (o ∷ ops) (good_ops layout (o ∷ ops) parts.1 typed))
+    (takes_further (next_op layout) (op_text t layout) (is_good_op layout) (λ rest. Unit {0}) (codes "COMMIT;\n") [] (ops_taken t layout [] (is_whole layout parts.0)) (omega arith) [] (o ∷ ops) (good_ops layout (o ∷ ops) parts.1 typed))
 
 -- Statements that define tables.
 
@@ -211,10 +217,10 @@ takes_record known (record_of.Apply t ops) is typed few =
     let last = and_parts (not (is_meta_table t) && not (is_empty ops)) (option_map_or (λ layout. are_ops layout ops) (schema_in known t) false) is in
     let parts = and_parts (not (is_meta_table t)) (not (is_empty ops)) last.0 in
     by (schema_in known t) refl last.1 parts.1 (not-true (is_meta_table t) parts.0) where
-  by : (o : Option Layout) → schema_in known t ≡ o → option_map_or (λ layout. are_ops layout ops) o false ≡ true → not (is_empty ops) ≡ true → is_meta_table t ≡ false
-      → any_record known (option_map_or (λ layout. transaction (flat_map (op_text t layout) ops)) o []) ≡ Some (record_of.Apply t ops, [])
-  by None e are some other = absurd cc
-  by (Some layout) e are some other = takes_apply known t layout ops other e some are typed
+      by : (o : Option Layout) → schema_in known t ≡ o → option_map_or (λ layout. are_ops layout ops) o false ≡ true → not (is_empty ops) ≡ true → is_meta_table t ≡ false
+          → any_record known (option_map_or (λ layout. transaction (flat_map (op_text t layout) ops)) o []) ≡ Some (record_of.Apply t ops, [])
+      by None e are some other = absurd cc
+      by (Some layout) e are some other = takes_apply known t layout ops other e some are typed
 takes_record known (record_of.Metas pairs) is typed few = takes_metas known pairs is few
 
 -- What a text is read as.
@@ -260,9 +266,9 @@ lost_record known text answer e few is none refused =
     let p = err_from_is_err_and answer is in
     let same : p.0 ≡ fault.NotRecord = ap (fault_or fault.NotRecord) (sym p.1 ∙ refused) in
     no_record known text few (none (sym p.2 ∙ same)) where
-  fault_or : RecordFault → Result Record RecordFault → RecordFault
-  fault_or other (Ok said) = other
-  fault_or other (Err e) = e
+      fault_or : RecordFault → Result Record RecordFault → RecordFault
+      fault_or other (Ok said) = other
+      fault_or other (Err e) = e
 
 pub unlike : (written text found : List ℕ) → pointwise nat_eq found text ≡ false → found ≡ written → written ≡ text → ⊥
 unlike written text found differs same is =

@@ -43,11 +43,7 @@ fn written_default(
 }
 
 #[tactic(auto, unfolding(crate::specs::Columns::default_rule))]
-fn default_rule(
-    alloc: Global,
-    left: &mut Left<'_>,
-    kind: Kind,
-) -> Result<DefaultRule, RecordFault>
+fn default_rule(alloc: Global, left: &mut Left<'_>, kind: Kind) -> Result<DefaultRule, RecordFault>
     requires { IsTrue (is_kind kind) }
     ensures { Reads (default_rule kind) left.old result left.new }
 {

@@ -10,6 +10,8 @@ mod metas;
 mod names;
 mod ops;
 mod record;
+#[cfg(test)]
+mod tests;
 mod types;
 
 pub use fault::RecordFault;

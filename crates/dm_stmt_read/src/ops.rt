@@ -113,11 +113,7 @@ fn cells(
 
 /// A new row: the names of its columns, and its values.
 #[tactic(auto, unfolding(crate::specs::Lines::row))]
-fn row(
-    alloc: Global,
-    left: &mut Left<'_>,
-    schema: &Schema,
-) -> Result<(Names, Row), RecordFault>
+fn row(alloc: Global, left: &mut Left<'_>, schema: &Schema) -> Result<(Names, Row), RecordFault>
     ensures { Reads (row schema.now.columns) left.old result left.new }
 {
     left.expect(b" ")?;

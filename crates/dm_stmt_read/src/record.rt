@@ -50,11 +50,7 @@ fn any_record(alloc: Global, left: &mut Left<'_>, known: &Known) -> Result<Recor
 
 /// A record that makes no table.
 #[tactic(auto, unfolding(crate::specs::Lines::later_record))]
-fn later_record(
-    alloc: Global,
-    left: &mut Left<'_>,
-    known: &Known,
-) -> Result<Record, RecordFault>
+fn later_record(alloc: Global, left: &mut Left<'_>, known: &Known) -> Result<Record, RecordFault>
     ensures { Reads (later_record known.now) left.old result left.new }
 {
     if left.accept(b"ALTER TABLE ") {

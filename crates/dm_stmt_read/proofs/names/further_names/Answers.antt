@@ -16,7 +16,7 @@ loop-preserved c =
 pub returns : goal.returns
 returns c =
     elim c.loop-test.branch [
-      else-loop-test w ↦ all_turns next_name c.len-end.result c.loop.counter c.loop.names.items c.new.result c.loop.left _ _ w.loop-test.false c.new.ensures w.left-is c.loop.invariant
-    | then-loop-test+in_ok-name+in-None w ↦
-      no_more next_name c.len-end.result c.loop.counter c.loop.names.items c.new.result w.in_ok-name.field-0 c.loop.left w.next_name.new.left _ _ w.loop-test.true w.in_ok-name.ensures w.in-None.is c.new.ensures w.left-is c.loop.invariant
+      | else-loop-test w ↦ all_turns next_name c.len-end.result c.loop.counter c.loop.names.items c.new.result c.loop.left _ _ w.loop-test.false c.new.ensures w.left-is c.loop.invariant
+      | then-loop-test+in_ok-name+in-None w ↦
+          no_more next_name c.len-end.result c.loop.counter c.loop.names.items c.new.result w.in_ok-name.field-0 c.loop.left w.next_name.new.left _ _ w.loop-test.true w.in_ok-name.ensures w.in-None.is c.new.ensures w.left-is c.loop.invariant
     ]

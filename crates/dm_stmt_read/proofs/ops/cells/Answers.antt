@@ -8,7 +8,7 @@ pub returns-in_err-marked_cell : goal.returns-in_err-marked_cell
 returns-in_err-marked_cell c =
     exits (each (marked_cell c.args.schema.now.columns) (codes " VALUES (") (codes ",") c.args.names.now) c.args.left.now _ c.from_residual.result c.in_err-marked_cell.field-0.0 c.from_residual.ensures.1
     (λ is. each_lost (marked_cell c.args.schema.now.columns) c.loop-name.mark.now (codes ",") c.args.names.now c.loop-name.name-index c.name-item.result c.loop-name.values.items c.loop-name.left _
-      c.loop-name-test.true c.name-item.is (c.in_err-marked_cell.ensures is) c.loop-name.invariant)
+    c.loop-name-test.true c.name-item.is (c.in_err-marked_cell.ensures is) c.loop-name.invariant)
 
 pub loop-name-preserved : goal.loop-name-preserved
 loop-name-preserved c =

@@ -8,7 +8,7 @@ pub returns-in_err-condition : goal.returns-in_err-condition
 returns-in_err-condition c =
     exits (each (condition c.args.schema.now.columns) (codes " WHERE ") (codes " AND ") c.args.names.now) c.args.left.now _ c.from_residual.result c.in_err-condition.field-0.0 c.from_residual.ensures.1
     (λ is. each_lost (condition c.args.schema.now.columns) c.loop-name.mark.now (codes " AND ") c.args.names.now c.loop-name.name-index c.name-item.result c.loop-name.values.items c.loop-name.left _
-      c.loop-name-test.true c.name-item.is (c.in_err-condition.ensures is) c.loop-name.invariant)
+    c.loop-name-test.true c.name-item.is (c.in_err-condition.ensures is) c.loop-name.invariant)
 
 pub loop-name-preserved : goal.loop-name-preserved
 loop-name-preserved c =

@@ -17,9 +17,9 @@ loop-preserved c =
 pub returns : goal.returns
 returns c =
     elim c.loop-test.branch [
-      else-loop-test w ↦
-      all_pairs (next_assignment c.args.schema.now.columns) c.len-end.result c.loop.counter c.loop.names.items c.new.result c.loop.values.items c.new-2.result c.loop.left _ _ w.loop-test.false c.new.ensures c.new-2.ensures w.left-is c.loop.invariant
-    | then-loop-test+in_ok-name+in-None w ↦
-      no_pair (next_assignment c.args.schema.now.columns) c.len-end.result c.loop.counter c.loop.names.items c.new.result c.loop.values.items c.new-2.result w.in_ok-name.field-0 c.loop.left w.next_assignment.new.left _ _
-      w.loop-test.true w.in_ok-name.ensures w.in-None.is c.new.ensures c.new-2.ensures w.left-is c.loop.invariant
+      | else-loop-test w ↦
+          all_pairs (next_assignment c.args.schema.now.columns) c.len-end.result c.loop.counter c.loop.names.items c.new.result c.loop.values.items c.new-2.result c.loop.left _ _ w.loop-test.false c.new.ensures c.new-2.ensures w.left-is c.loop.invariant
+      | then-loop-test+in_ok-name+in-None w ↦
+          no_pair (next_assignment c.args.schema.now.columns) c.len-end.result c.loop.counter c.loop.names.items c.new.result c.loop.values.items c.new-2.result w.in_ok-name.field-0 c.loop.left w.next_assignment.new.left _ _
+          w.loop-test.true w.in_ok-name.ensures w.in-None.is c.new.ensures c.new-2.ensures w.left-is c.loop.invariant
     ]
