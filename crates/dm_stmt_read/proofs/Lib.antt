@@ -1,0 +1,10 @@
+pub mod ChangeTexts
+pub mod ColumnTexts
+pub mod KindTexts
+pub mod Laws
+pub mod LineTexts
+pub mod Loops
+pub mod OpTexts
+pub mod RecordTexts
+pub mod Taking
+pub mod Tokens
