@@ -1,0 +1,6 @@
+pub mod Altering
+pub mod Answers
+pub mod Carrying
+pub mod Contents
+pub mod Framing
+pub mod Headers

@@ -1,0 +1,16 @@
+//! The journal: records of SQL, one behind another, and what they lead to.
+#![tactic(auto)]
+
+mod altering;
+mod carrying;
+mod content;
+#[cfg(test)]
+mod content_tests;
+mod fault;
+mod framing;
+#[cfg(test)]
+mod tests;
+
+pub use content::{JournalContent, read_content};
+pub use fault::ContentFault;
+pub use framing::{Front, front_of};
