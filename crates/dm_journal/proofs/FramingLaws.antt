@@ -1,5 +1,5 @@
 -- Laws of records in bytes: which record bytes begin with is determined, and bytes that are torn begin with none.
-use Rattle.std.proofs.Common.{◌≡◌, ℕ, ◌+◌, ◌<◌, List, [], ◌∷◌, ◌++◌, length, drop, refl, sym, ap, ◌∙◌, arith, append_assoc, append-nil}
+use Rattle.std.proofs.Common.{◌≡◌, ℕ, ◌<◌, List, [], ◌∷◌, ◌++◌, length, drop, refl, sym, ap, ◌∙◌, arith, append_assoc, append-nil}
 use Rattle.std.proofs.lemmas.List.{length-append}
 use Rattle.dm_time.specs.Texts.{number_of}
 use Rattle.dm_journal.specs.Framing.{HasRoom, IsTorn, framed}

@@ -1,11 +1,11 @@
 -- What bytes begin with, by the look of their front.
-use Rattle.std.proofs.Common.{◌≡◌, ℕ, ◌+◌, ◌-◌, ◌^◌, ◌<◌, ◌≤◌, Bool, true, false, List, [], ◌∷◌, ◌++◌, length, take, drop, replicate, refl, sym, ap, ◌∙◌, subst, arith, append_assoc}
+use Rattle.std.proofs.Common.{◌≡◌, ℕ, ◌+◌, ◌-◌, ◌^◌, ◌<◌, ◌≤◌, true, false, List, ◌++◌, length, take, drop, replicate, refl, sym, ap, ◌∙◌, subst, arith, append_assoc}
 use Rattle.std.proofs.lemmas.Bool.{true≢false}
 use Rattle.std.proofs.lemmas.List.{take-append-drop, drop-drop, length-append, length-drop, length-replicate, length-take-le, drop_all}
 use Rattle.dm_time.specs.Texts.{number_of}
 use Rattle.dm_journal.specs.Framing.{HasRoom, IsTorn, header, framed}
 use Rattle.dm_journal.specs.Headers.{header_shape, begins_as, length_digits}
-use Rattle.dm_journal.proofs.Headers.{begins_front, begins_further, header_begins, header_read, header_there, digits_have_room}
+use Rattle.dm_journal.proofs.Headers.{begins_front, begins_further, header_begins, header_there, digits_have_room}
 
 -- a text behind its header, of a known length
 framed_as : (text : List ℕ) (size : ℕ) → length text ≡ size → framed text ≡ header size ++ text

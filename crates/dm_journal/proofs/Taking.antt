@@ -1,8 +1,8 @@
 -- What the front of bytes says of them, and what records that are carried out one after another lead to.
-use Rattle.std.proofs.Common.{◌≡◌, ◌⊎◌, inl, inr, ℕ, ◌+◌, ◌-◌, ◌^◌, ◌<◌, ◌≤◌, List, [], ◌∷◌, ◌++◌, length, take, drop, Err, refl, sym, ap, subst, ◌∙◌, arith}
+use Rattle.std.proofs.Common.{◌≡◌, inl, inr, ℕ, ◌+◌, ◌-◌, ◌^◌, ◌<◌, ◌≤◌, List, [], ◌++◌, length, take, drop, Err, sym, ap, subst, ◌∙◌, arith}
 use Rattle.std.specs.Prelude.{map}
 use Rattle.std.proofs.Math.Seq.{take-append-add, take-append_seam}
-use Rattle.std.proofs.lemmas.List.{take-append-drop, drop-drop, length-append, length-drop, length-take-le}
+use Rattle.std.proofs.lemmas.List.{take-append-drop, length-append, length-drop, length-take-le}
 use Rattle.std.specs.FinMap as fin
 use Rattle.dm_target.specs.declared.memory.MemoryTarget.{MemoryTarget}
 use Rattle.dm_target.specs.Contents.{Content, no_content}
@@ -13,7 +13,7 @@ use Rattle.dm_journal.specs.declared.fault.ContentFault.{ContentFault}
 use Rattle.dm_journal.specs.declared.fault.CarryFault.{CarryFault}
 use Rattle.dm_journal.specs.declared.fault.CarryFault.TheVariants as fault
 use Rattle.dm_journal.specs.declared.framing.Front.TheVariants as front
-use Rattle.dm_journal.specs.Framing.{Begins, HasRoom, IsTorn, framed}
+use Rattle.dm_journal.specs.Framing.{Begins, HasRoom, framed}
 use Rattle.dm_journal.specs.Contents.{Does, Holds, IsBadAt, IsRest, Leads, known_of}
 use Rattle.dm_journal.specs.Contents.Leads.{Nowhere}
 use Rattle.dm_journal.specs.Carrying.{Carries, DoesNothing, IsBad, MatchFront, MatchText, Takes, calls_of, content_of}

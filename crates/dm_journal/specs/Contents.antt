@@ -1,14 +1,12 @@
 -- What a journal's bytes say: the content that the calls of its records lead to.
-use Rattle.std.specs.Prelude.{◌≡◌, ◌⊎◌, ℕ, ◌<◌, List, [], ◌∷◌, ◌++◌, map, length, Option, Some, None, option_and_then, Result, Ok, Err}
+use Rattle.std.specs.Prelude.{◌≡◌, ◌⊎◌, ℕ, List, [], ◌∷◌, ◌++◌, map, length, Option, Some, None, option_and_then, Result, Ok, Err}
 use Rattle.std.specs.FinMap as fin
 use Rattle.dm_value.specs.declared.value.Value.{Value}
 use Rattle.dm_schema.specs.declared.change.Change.{Change}
 use Rattle.dm_schema.specs.declared.column.Kind.{Kind}
 use Rattle.dm_schema.specs.declared.fault.EffectFault.{EffectFault}
-use Rattle.dm_schema.specs.declared.table_name.TableName.{TableName}
 use Rattle.dm_schema.specs.Effect.{joined_effect}
 use Rattle.dm_schema.specs.Layout.{Layout}
-use Rattle.dm_table.specs.Contents.{TableContent}
 use Rattle.dm_target.specs.Contents.{Content, effect, no_content, table_of}
 use Rattle.dm_target.specs.declared.call.Call.{Call}
 use Rattle.dm_target.specs.declared.call.Call.TheVariants as call

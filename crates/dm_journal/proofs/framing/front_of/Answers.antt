@@ -1,4 +1,4 @@
-use Rattle.std.proofs.Common.{◌≡◌, ◌<◌, true, false, [], length, sym, ap, arith, rules}
+use Rattle.std.proofs.Common.{◌≡◌, ◌<◌, true, false, length, sym, ap, arith, rules}
 use Rattle.dm_journal.specs.Headers.{header_shape, begins_as}
 use Rattle.dm_journal.proofs.Fronts.{not_torn, not_whole, torn_header, torn_text, whole_there}
 use Rattle.dm_journal.proofs.framing.front_of.Goals as goal
