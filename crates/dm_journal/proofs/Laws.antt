@@ -3,9 +3,7 @@ use Rattle.std.proofs.Common.{◌≡◌, inl, inr, ℕ, ◌^◌, ◌<◌, List, 
 use Rattle.std.proofs.lemmas.List.{length-append}
 use Rattle.dm_target.specs.Contents.{Content, effect, no_content}
 use Rattle.dm_target.specs.declared.call.Call.{Call}
-use Rattle.dm_stmt.specs.Known.{KnownMap}
-use Rattle.dm_stmt.specs.declared.record.Record.{Record}
-use Rattle.dm_stmt_read.specs.Reading.{IsTextOf}
+use Rattle.dm_stmt_read.proofs.Laws.{one_record}
 use Rattle.dm_journal.specs.Framing.{HasRoom, framed}
 use Rattle.dm_journal.specs.Contents.{Does, Holds, IsBadAt, IsRest, Leads, call_of, known_of}
 use Rattle.dm_journal.specs.Contents.Leads.{Nowhere, Further}
@@ -31,15 +29,12 @@ leads_further first content after bytes text calls done leads room does = leads_
 
 -- What leads is determined, since a text is one record's. As for what is read, the bytes are fewer than 2 ^ 32.
 
-abbrev pub OneRecord : Type 0
-OneRecord = (known : KnownMap) (text : List ℕ) (said other : Record) → length text < 2 ^ 32 → IsTextOf known text said → IsTextOf known text other → other ≡ said
-
 one_call : (o : Option Call) (a b : Call) → o ≡ Some a → o ≡ Some b → a ≡ b
 one_call o a b is_a is_b = cc
 
-pub does_one : OneRecord → (content left right : Content) (text : List ℕ) (a b : Call) → length text < 2 ^ 32 → Does content text a left → Does content text b right → (a ≡ b) × (left ≡ right)
-does_one one content left right text a b few does does_too =
-    let said : does.said ≡ does_too.said = one (known_of content) text does_too.said does.said few does_too.reads does.reads in
+pub does_one : (content left right : Content) (text : List ℕ) (a b : Call) → length text < 2 ^ 32 → Does content text a left → Does content text b right → (a ≡ b) × (left ≡ right)
+does_one content left right text a b few does does_too =
+    let said : does.said ≡ does_too.said = one_record (known_of content) text does_too.said does.said few does_too.reads does.reads in
     let called : a ≡ b = one_call (call_of content does.said) a b does.calls (ap (call_of content) said ∙ does_too.calls) in
     (called, one_content (effect a content) left right does.leaves (ap (λ (c : Call). effect c content) called ∙ does_too.leaves)) where
       one_content : {E : Type 0} (r : Result Content E) (a b : Content) → r ≡ Ok a → r ≡ Ok b → a ≡ b
@@ -66,18 +61,18 @@ does_from : (a b : Content) (text other : List ℕ) (done : Call) (after : Conte
 does_from a b text other done after same_start same_text does =
     subst (λ (c : Content). Does c text done after) (sym same_start) (subst (λ (t : List ℕ). Does b t done after) (sym same_text) does)
 
-pub leads_same : OneRecord → (a b left right : Content) (xs ys r s : List ℕ) (first second : List Call) → length xs < 2 ^ 32 → a ≡ b → xs ++ r ≡ ys ++ s → IsRest r → IsRest s
+pub leads_same : (a b left right : Content) (xs ys r s : List ℕ) (first second : List Call) → length xs < 2 ^ 32 → a ≡ b → xs ++ r ≡ ys ++ s → IsRest r → IsRest s
     → Leads a xs first left → Leads b ys second right → IsSameWay xs ys first second left right
-leads_same one a b left right xs ys r s first second few start same rest rest_too (Nowhere content) (Nowhere content_too) = record { bytes = refl; calls = refl; content = start }
-leads_same one a b left right xs ys r s first second few start same rest rest_too (Nowhere content) (Further content_too middle after text behind done calls room does leads) =
+leads_same a b left right xs ys r s first second few start same rest rest_too (Nowhere content) (Nowhere content_too) = record { bytes = refl; calls = refl; content = start }
+leads_same a b left right xs ys r s first second few start same rest rest_too (Nowhere content) (Further content_too middle after text behind done calls room does leads) =
     absurd (rest_is_not_whole r rest text (behind ++ s) room (same ∙ append_assoc (framed text) behind s))
-leads_same one a b left right xs ys r s first second few start same rest rest_too (Further content middle after text behind done calls room does leads) (Nowhere content_too) =
+leads_same a b left right xs ys r s first second few start same rest rest_too (Further content middle after text behind done calls room does leads) (Nowhere content_too) =
     absurd (rest_is_not_whole s rest_too text (behind ++ r) room (sym same ∙ append_assoc (framed text) behind r))
-leads_same one a b left right xs ys r s first second few start same rest rest_too (Further content middle after text behind done calls room does leads) (Further content_too middle_too after_too text_too behind_too done_too calls_too room_too does_too leads_too) =
+leads_same a b left right xs ys r s first second few start same rest rest_too (Further content middle after text behind done calls room does leads) (Further content_too middle_too after_too text_too behind_too done_too calls_too room_too does_too leads_too) =
     let texts = first_text text text_too behind behind_too r s room room_too same in
     let parts = few_parts text behind few in
-    let did = does_one one a middle middle_too text done done_too parts.0 does (does_from a b text text_too done_too middle_too start texts.0 does_too) in
-    let others = leads_same one middle middle_too left right behind behind_too r s calls calls_too parts.1 did.1 texts.1 rest rest_too leads leads_too in
+    let did = does_one a middle middle_too text done done_too parts.0 does (does_from a b text text_too done_too middle_too start texts.0 does_too) in
+    let others = leads_same middle middle_too left right behind behind_too r s calls calls_too parts.1 did.1 texts.1 rest rest_too leads leads_too in
     record {
       bytes = λ i. framed (texts.0 i) ++ others.bytes i;
       calls = λ i. did.0 i ∷ others.calls i;
@@ -87,36 +82,36 @@ leads_same one a b left right xs ys r s first second few start same rest rest_to
 no_rest : IsRest []
 no_rest = inl refl
 
-pub leads_one : OneRecord → (start left right : Content) (bytes : List ℕ) (first second : List Call) → length bytes < 2 ^ 32 → Leads start bytes first left → Leads start bytes second right → (first ≡ second) × (left ≡ right)
-leads_one one start left right bytes first second few leads leads_too =
-    let way = leads_same one start start left right bytes bytes [] [] first second few refl refl no_rest no_rest leads leads_too in
+pub leads_one : (start left right : Content) (bytes : List ℕ) (first second : List Call) → length bytes < 2 ^ 32 → Leads start bytes first left → Leads start bytes second right → (first ≡ second) × (left ≡ right)
+leads_one start left right bytes first second few leads leads_too =
+    let way = leads_same start start left right bytes bytes [] [] first second few refl refl no_rest no_rest leads leads_too in
     (way.calls, way.content)
 
 -- whole records are no longer than the bytes that they stand in front of
 few_whole : (bytes whole rest : List ℕ) → bytes ≡ whole ++ rest → length bytes < 2 ^ 32 → length whole < 2 ^ 32
 few_whole bytes whole rest parts few = omega (arith, length-append whole rest, ap length parts)
 
-pub holds_one : OneRecord → (bytes : List ℕ) (left right : Content) (first second : List Call) (m n : ℕ) → length bytes < 2 ^ 32 → Holds bytes left first m → Holds bytes right second n → (left ≡ right) × (first ≡ second) × (m ≡ n)
-holds_one one bytes left right first second m n few holds holds_too =
-    let way = leads_same one no_content no_content left right holds.whole holds_too.whole holds.rest holds_too.rest first second (few_whole bytes holds.whole holds.rest holds.parts few) refl (sym holds.parts ∙ holds_too.parts) holds.torn holds_too.torn holds.leads holds_too.leads in
+pub holds_one : (bytes : List ℕ) (left right : Content) (first second : List Call) (m n : ℕ) → length bytes < 2 ^ 32 → Holds bytes left first m → Holds bytes right second n → (left ≡ right) × (first ≡ second) × (m ≡ n)
+holds_one bytes left right first second m n few holds holds_too =
+    let way = leads_same no_content no_content left right holds.whole holds_too.whole holds.rest holds_too.rest first second (few_whole bytes holds.whole holds.rest holds.parts few) refl (sym holds.parts ∙ holds_too.parts) holds.torn holds_too.torn holds.leads holds_too.leads in
     (way.content, way.calls, sym holds.sized ∙ ap length way.bytes ∙ holds_too.sized)
 
 -- Bytes that hold something have no bad place.
 
-leads_past : OneRecord → (a b left content : Content) (xs ys r s : List ℕ) (first calls : List Call) → length xs < 2 ^ 32 → a ≡ b → xs ++ r ≡ ys ++ s → IsRest r → (IsRest s → ⊥)
+leads_past : (a b left content : Content) (xs ys r s : List ℕ) (first calls : List Call) → length xs < 2 ^ 32 → a ≡ b → xs ++ r ≡ ys ++ s → IsRest r → (IsRest s → ⊥)
     → ((text behind : List ℕ) (done : Call) (after : Content) → s ≡ framed text ++ behind → HasRoom text → Does content text done after → ⊥)
     → Leads a xs first left → Leads b ys calls content → ⊥
-leads_past one a b left content xs ys r s first calls few start same rest not_rest nothing (Nowhere here) (Nowhere here_too) = not_rest (subst IsRest same rest)
-leads_past one a b left content xs ys r s first calls few start same rest not_rest nothing (Nowhere here) (Further here_too middle after text behind done others room does leads) =
+leads_past a b left content xs ys r s first calls few start same rest not_rest nothing (Nowhere here) (Nowhere here_too) = not_rest (subst IsRest same rest)
+leads_past a b left content xs ys r s first calls few start same rest not_rest nothing (Nowhere here) (Further here_too middle after text behind done others room does leads) =
     rest_is_not_whole r rest text (behind ++ s) room (same ∙ append_assoc (framed text) behind s)
-leads_past one a b left content xs ys r s first calls few start same rest not_rest nothing (Further here middle after text behind done others room does leads) (Nowhere here_too) =
+leads_past a b left content xs ys r s first calls few start same rest not_rest nothing (Further here middle after text behind done others room does leads) (Nowhere here_too) =
     nothing text (behind ++ r) done middle (sym same ∙ append_assoc (framed text) behind r) room (does_from b a text text done middle (sym start) refl does)
-leads_past one a b left content xs ys r s first calls few start same rest not_rest nothing (Further here middle after text behind done others room does leads) (Further here_too middle_too after_too text_too behind_too done_too others_too room_too does_too leads_too) =
+leads_past a b left content xs ys r s first calls few start same rest not_rest nothing (Further here middle after text behind done others room does leads) (Further here_too middle_too after_too text_too behind_too done_too others_too room_too does_too leads_too) =
     let texts = first_text text text_too behind behind_too r s room room_too same in
     let parts = few_parts text behind few in
-    let did = does_one one a middle middle_too text done done_too parts.0 does (does_from a b text text_too done_too middle_too start texts.0 does_too) in
-    leads_past one middle middle_too left content behind behind_too r s others others_too parts.1 did.1 texts.1 rest not_rest nothing leads leads_too
+    let did = does_one a middle middle_too text done done_too parts.0 does (does_from a b text text_too done_too middle_too start texts.0 does_too) in
+    leads_past middle middle_too left content behind behind_too r s others others_too parts.1 did.1 texts.1 rest not_rest nothing leads leads_too
 
-pub holds_is_not_bad : OneRecord → (bytes : List ℕ) (content : Content) (calls : List Call) (size at : ℕ) → length bytes < 2 ^ 32 → Holds bytes content calls size → IsBadAt bytes at → ⊥
-holds_is_not_bad one bytes content calls size at few holds bad =
-    leads_past one no_content no_content content bad.content holds.whole bad.whole holds.rest bad.rest calls bad.calls (few_whole bytes holds.whole holds.rest holds.parts few) refl (sym holds.parts ∙ bad.parts) holds.torn bad.not_rest bad.does_nothing holds.leads bad.leads
+pub holds_is_not_bad : (bytes : List ℕ) (content : Content) (calls : List Call) (size at : ℕ) → length bytes < 2 ^ 32 → Holds bytes content calls size → IsBadAt bytes at → ⊥
+holds_is_not_bad bytes content calls size at few holds bad =
+    leads_past no_content no_content content bad.content holds.whole bad.whole holds.rest bad.rest calls bad.calls (few_whole bytes holds.whole holds.rest holds.parts few) refl (sym holds.parts ∙ bad.parts) holds.torn bad.not_rest bad.does_nothing holds.leads bad.leads
