@@ -21,7 +21,9 @@ code_of status.Usage = 1
 code_of (status.Task path cause) = 2
 code_of status.ReadFault = 4
 code_of status.WriteFault = 5
+code_of status.TargetFault = 6
 code_of status.Memory = 7
+code_of (status.JournalBad at) = 8
 code_of (status.Limit which) = 9
 code_of status.Unlawful = 10
 code_of (status.Missing name) = 11
@@ -62,6 +64,7 @@ abbrev pub which_text : Which → List ℕ
 which_text which.Files = codes "Files"
 which_text which.Items = codes "Items"
 which_text which.Values = codes "Values"
+which_text which.Journal = codes "Journal"
 
 -- Lines.
 
@@ -80,6 +83,8 @@ fault_words (status.Task path cause) = codes "Task" ∷ path ∷ task_cause_text
 fault_words status.ReadFault = codes "ReadFault" ∷ []
 fault_words status.WriteFault = []
 fault_words status.Memory = []
+fault_words status.TargetFault = codes "TargetFault" ∷ []
+fault_words (status.JournalBad at) = codes "JournalBad" ∷ decimal at ∷ []
 fault_words (status.Limit which) = codes "Limit" ∷ which_text which ∷ []
 fault_words status.Unlawful = codes "Unlawful" ∷ []
 fault_words (status.Missing name) = codes "Missing" ∷ name ∷ []

@@ -47,6 +47,8 @@ fn push_fault(alloc: Global, line: &mut Vec<u8>, status: &Status) -> Result<(), 
             push_word(line, task_cause_text(*cause))
         }
         Status::ReadFault => push_word(line, b"ReadFault"),
+        Status::TargetFault => push_word(line, b"TargetFault"),
+        Status::JournalBad { at } => push_bad(alloc, line, *at),
         Status::Limit { which } => push_two(line, b"Limit", which_text(*which)),
         Status::Unlawful => push_word(line, b"Unlawful"),
         Status::Missing { name } => push_two(line, b"Missing", name.as_slice()),
@@ -73,6 +75,13 @@ pub fn push_two(line: &mut Vec<u8>, first: &[u8], second: &[u8]) -> Result<(), A
 {
     push_word(line, first)?;
     push_word(line, second)
+}
+
+fn push_bad(alloc: Global, line: &mut Vec<u8>, at: u32) -> Result<(), AllocError>
+    ensures { OnOk result (line.new.items ≡ line.old.items ++ flat_map behind_blank (fault_words (Status.JournalBad at))) }
+{
+    let place = at.to_string(alloc)?;
+    push_two(line, b"JournalBad", place.as_bytes())
 }
 
 fn push_dump(
@@ -156,5 +165,6 @@ fn which_text(which: Which) -> &'static [u8]
         Which::Files => b"Files",
         Which::Items => b"Items",
         Which::Values => b"Values",
+        Which::Journal => b"Journal",
     }
 }

@@ -23,7 +23,13 @@ pub enum Status {
     ReadFault,
     /// The text couldn't be written.
     WriteFault,
+    /// The journal couldn't be read.
+    TargetFault,
     Memory,
+    /// What begins at this byte of the journal is no record, or one that nothing can be made of.
+    JournalBad {
+        at: u32,
+    },
     /// A limit was passed.
     Limit {
         which: Which,
@@ -48,12 +54,14 @@ pub enum Status {
     },
 }
 
-/// What there may be only so much of: the bytes of all files that are read together, the rows, their values.
+/// What there may be only so much of: the bytes of all files that are read together, the rows, their values, the bytes of
+/// the journal.
 #[derive(Clone, Copy, Debug, PartialEq, Eq)]
 pub enum Which {
     Files,
     Items,
     Values,
+    Journal,
 }
 
 impl Status {
@@ -69,7 +77,9 @@ impl Status {
             Status::Task { .. } => 2,
             Status::ReadFault => 4,
             Status::WriteFault => 5,
+            Status::TargetFault => 6,
             Status::Memory => 7,
+            Status::JournalBad { .. } => 8,
             Status::Limit { .. } => 9,
             Status::Unlawful => 10,
             Status::Missing { .. } => 11,

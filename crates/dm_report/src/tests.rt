@@ -1,4 +1,7 @@
-use crate::{Status, Which, fault_line, push_head, push_row};
+mod shows;
+
+use crate::text::{push_head, push_row};
+use crate::{Status, Which, fault_line};
 use dm_dump::DumpCause;
 use dm_join::JoinCause;
 use dm_list::Bytes;
@@ -150,10 +153,28 @@ fn tells_faults_with_their_fields(rt: HostRuntime) -> Result<(), Fail> {
 #[test]
 fn tells_faults_without_fields(rt: HostRuntime) -> Result<(), Fail> {
     let alloc = rt.alloc();
-    let statuses = [Status::Usage, Status::ReadFault, Status::Unlawful];
-    let want = "1 fault Usage\n4 fault ReadFault\n10 fault Unlawful\n";
+    let statuses = [
+        Status::Usage,
+        Status::ReadFault,
+        Status::TargetFault,
+        Status::Unlawful,
+    ];
+    let want = "1 fault Usage\n4 fault ReadFault\n6 fault TargetFault\n10 fault Unlawful\n";
     assert_eq!(rt; lines(alloc, &statuses)?.as_str(), want);
     let silent = [Status::Done, Status::WriteFault, Status::Memory];
     assert_eq!(rt; lines(alloc, &silent)?.as_str(), "0 5 7 ");
+    Ok(())
+}
+
+#[test]
+fn tells_faults_of_a_journal(rt: HostRuntime) -> Result<(), Fail> {
+    let statuses = [
+        Status::JournalBad { at: 4_294_967_295 },
+        Status::Limit {
+            which: Which::Journal,
+        },
+    ];
+    let want = "8 fault JournalBad 4294967295\n9 fault Limit Journal\n";
+    assert_eq!(rt; lines(rt.alloc(), &statuses)?.as_str(), want);
     Ok(())
 }

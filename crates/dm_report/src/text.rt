@@ -1,15 +1,33 @@
-ghost use Rattle.std.specs.Prelude.{◌≡◌, ◌++◌, OnOk};
+ghost use Rattle.std.specs.Prelude.{◌≡◌, ◌++◌, length, OnOk};
+ghost use Rattle.std.specs.BTreeMap.{values};
 ghost use Rattle.std.specs.List.{flat_map};
-ghost use Rattle.dm_report.specs.Texts.{column_line, primary_line, unique_line, count_line, head_text, row_line};
+ghost use Rattle.dm_report.specs.Texts.{column_line, primary_line, unique_line, count_line, head_text, row_line, table_text};
 
-use dm_schema::{Column, UniqueKey};
+use dm_schema::{Column, Schema, UniqueKey};
 use dm_text::{push_column, push_name, push_name_list, push_tuple};
-use dm_value::{Name, Value};
+use dm_value::{Name, Row, Value};
 use std::alloc::{AllocError, Global};
+use std::collections::BTreeMap;
 
-/// Adds the lines of columns, of the primary key, of unique keys, and of the number of rows. Columns and unique keys
-/// stand in the order in which they are to be printed. Where memory runs out, a part of the text may have been added.
-pub fn push_head(
+/// Adds the text of a table. Columns and unique keys stand in the schema's order, and rows in the order of their keys.
+/// Where memory runs out, a part of the text may have been added.
+pub fn push_table(
+    alloc: Global,
+    out: &mut Vec<u8>,
+    schema: &Schema,
+    rows: &BTreeMap<Row, Row>,
+) -> Result<(), AllocError>
+    ensures { OnOk result (out.new.items ≡ out.old.items ++ table_text schema.now.columns schema.now.primary schema.now.uniques (values rows.now) (length (values rows.now))) }
+{
+    let columns = schema.columns();
+    let primary = schema.primary().as_slice();
+    let count = rows.len() as u64;
+    push_head(alloc, out, columns, primary, schema.uniques(), count)?;
+    push_rows(alloc, out, columns, rows)
+}
+
+/// Adds the lines of columns, of the primary key, of unique keys, and of the number of rows.
+pub(crate) fn push_head(
     alloc: Global,
     out: &mut Vec<u8>,
     columns: &[Column],
@@ -26,9 +44,23 @@ pub fn push_head(
     push_count(alloc, out, count)
 }
 
-/// Adds the line of a row. Columns and values stand in the order in which they are to be printed. Where memory runs
-/// out, a part of the line may have been added.
-pub fn push_row(
+/// Adds the lines of rows in the order of their keys.
+fn push_rows(
+    alloc: Global,
+    out: &mut Vec<u8>,
+    columns: &[Column],
+    rows: &BTreeMap<Row, Row>,
+) -> Result<(), AllocError>
+    ensures { OnOk result (out.new.items ≡ out.old.items ++ flat_map (row_line columns.now) (values rows.now)) }
+{
+    for row in rows.values() {
+        push_row(alloc, out, columns, row.as_slice())?;
+    }
+    Ok(())
+}
+
+/// Adds the line of a row.
+pub(crate) fn push_row(
     alloc: Global,
     out: &mut Vec<u8>,
     columns: &[Column],

@@ -8,10 +8,11 @@ use crate::texts::Texts;
 use crate::{Call, Meta, Target, TargetError};
 use dm_list::{Bytes, Copied};
 use dm_schema::{Schema, TableName};
-use dm_table::RowOp;
+use dm_table::{RowOp, Table};
 use dm_value::Rows;
 use http_server::Log;
 use std::alloc::{AllocError, Global};
+use std::collections::BTreeMap;
 
 /// A target that is kept in memory. It never fails and is never full.
 ///
@@ -49,6 +50,20 @@ impl MemoryTarget {
         ensures { IfOk result (λ names. names.items ≡ fin.keys self.now.texts) }
     {
         self.texts.names(alloc)
+    }
+
+    /// The tables under their names, in byte order of these.
+    pub fn tables_in_order(&self) -> &BTreeMap<TableName, Table>
+        ensures { result.now.entries ≡ fin.entries self.now.tables }
+    {
+        self.tables.in_order()
+    }
+
+    /// The texts under their names, in byte order of these.
+    pub fn metas_in_order(&self) -> &BTreeMap<Bytes, Bytes>
+        ensures { result.now.entries ≡ fin.entries self.now.texts }
+    {
+        self.texts.in_order()
     }
 }
 

@@ -107,7 +107,7 @@ impl Tables {
         table.apply(alloc, ops)
     }
 
-    fn in_order(&self) -> &BTreeMap<TableName, Table>
+    pub(crate) fn in_order(&self) -> &BTreeMap<TableName, Table>
         ensures { result.now.entries ≡ fin.entries self.now }
     {
         &self.tables

@@ -80,7 +80,7 @@ impl Texts {
         Ok(())
     }
 
-    fn in_order(&self) -> &BTreeMap<Bytes, Bytes>
+    pub(crate) fn in_order(&self) -> &BTreeMap<Bytes, Bytes>
         ensures { result.now.entries ≡ fin.entries self.now }
     {
         &self.texts

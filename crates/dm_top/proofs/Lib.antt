@@ -2,3 +2,4 @@ mod Adding
 mod Gathering
 mod Laws
 mod Merging
+mod Showing

@@ -4,3 +4,4 @@ pub mod Reading
 pub mod Rows
 pub mod Sources
 pub mod Top
+pub mod Showing

@@ -1,5 +1,5 @@
 -- How the top call ends, and what it puts.
-use Rattle.std.specs.Prelude.{◌≡◌, ◌≢◌, ⊤, Bool, true, false, ◌||◌, ◌&&◌, not, List, [], ◌∷◌, Option, Some, None, Result, Ok, Err, IfSome, MatchBool, MatchResult}
+use Rattle.std.specs.Prelude.{◌≡◌, ◌≢◌, ⊤, ℕ, Bool, true, false, ◌||◌, ◌&&◌, not, List, [], ◌∷◌, Option, Some, None, Result, Ok, Err, IfSome, MatchBool, MatchResult}
 use Rattle.std.specs.Global.{Vec}
 use Rattle.dm_base.specs.Outside.{Files, added, AddsPart}
 use Rattle.dm_schema.specs.Names.{Text}
@@ -18,6 +18,7 @@ use Rattle.dm_top.specs.declared.files.NamedFile.{NamedFile}
 use Rattle.dm_top.specs.Reading.{Named, most_bytes, named_of, files_of}
 use Rattle.dm_top.specs.Rows.{Said}
 use Rattle.dm_top.specs.Load.{ReadsDumps, merged_of}
+use Rattle.dm_top.specs.Showing.{Shows}
 
 -- what a command answers before anything is put: a text to print, or how it ends otherwise
 abbrev pub Answer : Type 0
@@ -47,18 +48,31 @@ abbrev pub is_done : Status → Bool
 is_done status.Done = true
 is_done s = false
 
--- Memory may run out and a read may fail whatever the words and the files are.
+abbrev pub is_target_fault : Status → Bool
+is_target_fault status.TargetFault = true
+is_target_fault s = false
+
+-- Memory may run out whatever the words, the files and the journal are. A read may fail where files are read, and the journal
+-- where it is loaded.
+abbrev pub lacks_memory : Answer → Bool
+lacks_memory (Ok text) = false
+lacks_memory (Err s) = is_memory s
+
 abbrev pub is_free : Answer → Bool
 is_free (Ok text) = false
 is_free (Err s) = is_memory s || is_read_fault s
+
+abbrev pub is_free_of_journal : Answer → Bool
+is_free_of_journal (Ok text) = false
+is_free_of_journal (Err s) = is_memory s || is_target_fault s
 
 -- an answer that a command may give before anything is put
 abbrev pub is_refusal : Status → Bool
 is_refusal s = not (is_done s || is_write_fault s)
 
--- how a command may end at what its files say, once they are read
+-- how a command may end at what its files or the journal say, once these are read
 abbrev pub is_own : Status → Bool
-is_own s = is_refusal s && not (is_usage s || is_read_fault s || is_missing s)
+is_own s = is_refusal s && not (is_usage s || is_read_fault s || is_missing s || is_target_fault s)
 
 -- what was read of files of these names, or how a command ends at the first that isn't read
 abbrev pub FilesOrEnd : Files → List Text → Result (Vec NamedFile) Status → Type 0
@@ -99,18 +113,24 @@ is_known None = false
 is_known (Some (order.Load files)) = true
 is_known (Some (order.CheckTask file)) = true
 is_known (Some (order.Run file limit workers stop_after)) = false
-is_known (Some order.Show) = false
+is_known (Some order.Show) = true
 is_known (Some (order.Gen number workers)) = false
 
--- The answer to an order, over these files.
-abbrev pub AnswersOrder : Files → Option Order → Answer → Type 0
-AnswersOrder files (Some (order.Load names)) answer = Loads files names answer
-AnswersOrder files (Some (order.CheckTask name)) answer = Checks files name answer
-AnswersOrder files _ answer = answer ≡ Err status.Usage
+-- what is told of the outside: the files, and the journal's bytes
+pub record Outside : Type 0 where
+  pub files : Option Files
+  pub journal : Option (List ℕ)
 
--- The answer to these words; one that is free may come to any of them.
-abbrev pub AnswersWords : Files → List Text → Answer → Type 0
-AnswersWords files words answer = MatchBool (is_free answer) ⊤ (AnswersOrder files (order_of words) answer)
+-- The answer to an order, over what is told of the outside.
+abbrev pub AnswersOrder : Outside → Option Order → Answer → Type 0
+AnswersOrder outside (Some (order.Load names)) answer = IfSome outside.files (λ files. MatchBool (is_free answer) ⊤ (Loads files names answer))
+AnswersOrder outside (Some (order.CheckTask name)) answer = IfSome outside.files (λ files. MatchBool (is_free answer) ⊤ (Checks files name answer))
+AnswersOrder outside (Some order.Show) answer = IfSome outside.journal (λ bytes. MatchBool (is_free_of_journal answer) ⊤ (Shows bytes answer))
+AnswersOrder outside _ answer = MatchBool (lacks_memory answer) ⊤ (answer ≡ Err status.Usage)
+
+-- The answer to these words; memory may run out at any.
+abbrev pub AnswersWords : Outside → List Text → Answer → Type 0
+AnswersWords outside words answer = MatchBool (lacks_memory answer) ⊤ (AnswersOrder outside (order_of words) answer)
 
 -- What is put.
 
@@ -132,8 +152,8 @@ Ends answer ended before now =
     ((ended ≡ status_of answer) × (now ≡ added before (output_of answer))))
 
 -- What the top call does with these words: there is an answer to them, and it ended so.
-pub record Runs (words : List Text) (files : Option Files) (ended : Status) (before now : Option Text) : Type 0 where
+pub record Runs (words : List Text) (outside : Outside) (ended : Status) (before now : Option Text) : Type 0 where
   pub answer : Answer
-  pub told : IfSome files (λ files. AnswersWords files words answer)
-  pub usage : MatchBool (is_known (order_of words)) (answer ≢ Err status.Usage) (MatchBool (is_free answer) ⊤ (answer ≡ Err status.Usage))
+  pub told : AnswersWords outside words answer
+  pub usage : MatchBool (is_known (order_of words)) (answer ≢ Err status.Usage) (MatchBool (lacks_memory answer) ⊤ (answer ≡ Err status.Usage))
   pub put : Ends answer ended before now

@@ -20,6 +20,7 @@ pub fn check_task<F: Shelf>(alloc: Global, shelf: &mut F, name: Bytes) -> Result
     ensures told { IfSome (F.files shelf.old) (λ files. MatchBool (is_free result) ⊤ (Checks files name result)) }
     ensures refusal { IfErr result (λ s. IsTrue (is_refusal s)) }
     ensures usage { result ≢ Err Status.Usage }
+    ensures target { result ≢ Err Status.TargetFault }
     ensures files { F.files shelf.new ≡ F.files shelf.old }
     ensures read { result ≡ Err Status.ReadFault → Rose (F.faults shelf.old) (F.faults shelf.new) }
     ensures missing { IsErrAnd result (λ s. IsTrue (is_missing s)) → Rose (F.misses shelf.old) (F.misses shelf.new) }

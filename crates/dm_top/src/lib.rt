@@ -10,10 +10,10 @@ mod load;
 mod merge;
 mod plain;
 mod rows;
+mod show;
 mod sources;
 #[cfg(test)]
 mod tests;
-mod text;
 
 pub use dm_report::Status;
 pub use plain::dm_plain;

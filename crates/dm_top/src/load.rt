@@ -25,6 +25,7 @@ pub fn files_or_end<F: Shelf>(
     ensures count { IfOk result (λ read. length read.items ≡ length names.now) }
     ensures refusal { IfErr result (λ s. IsTrue (is_refusal s)) }
     ensures usage { result ≢ Err Status.Usage }
+    ensures target { result ≢ Err Status.TargetFault }
     ensures files { F.files shelf.new ≡ F.files shelf.old }
     ensures read { result ≡ Err Status.ReadFault → Rose (F.faults shelf.old) (F.faults shelf.new) }
     ensures missing { IsErrAnd result (λ s. IsTrue (is_missing s)) → Rose (F.misses shelf.old) (F.misses shelf.new) }
@@ -46,6 +47,7 @@ pub fn load<F: Shelf>(alloc: Global, shelf: &mut F, names: &[Bytes]) -> Result<B
     ensures told { IfSome (F.files shelf.old) (λ files. MatchBool (is_free result) ⊤ (Loads files names.now result)) }
     ensures refusal { IfErr result (λ s. IsTrue (is_refusal s)) }
     ensures usage { result ≢ Err Status.Usage }
+    ensures target { result ≢ Err Status.TargetFault }
     ensures files { F.files shelf.new ≡ F.files shelf.old }
     ensures read { result ≡ Err Status.ReadFault → Rose (F.faults shelf.old) (F.faults shelf.new) }
     ensures missing { IsErrAnd result (λ s. IsTrue (is_missing s)) → Rose (F.misses shelf.old) (F.misses shelf.new) }

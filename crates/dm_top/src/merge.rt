@@ -1,5 +1,7 @@
-ghost use Rattle.std.specs.Prelude.{◌≡◌, [], Ok, option_map, IfOk, IfErr, IsTrue};
+ghost use Rattle.std.specs.Prelude.{◌≡◌, [], length, Ok, option_map, IfOk, IfErr, IsTrue};
+ghost use Rattle.std.specs.BTreeMap.{values};
 ghost use Rattle.dm_list.specs.Answer.{Answers};
+ghost use Rattle.dm_report.specs.Texts.{table_text};
 ghost use Rattle.dm_top.specs.Rows.{all_entries};
 ghost use Rattle.dm_top.specs.Load.{load_table, merged_over, merged_from, merged_of};
 ghost use Rattle.dm_top.specs.Merge.{added};
@@ -10,10 +12,9 @@ use crate::keys::share_unique;
 use crate::limits::{MOST_ITEMS, MOST_VALUES};
 use crate::rows::add_rows;
 use crate::sources::{Source, exceed_items, exceed_values, schemas_of};
-use crate::text::text_of;
 use dm_join::{NoJoin, join};
 use dm_list::Bytes;
-use dm_report::{Status, Which};
+use dm_report::{Status, Which, push_table};
 use dm_schema::{Schema, TableName};
 use dm_value::{Name, Row};
 use std::alloc::{AllocError, Global};
@@ -44,6 +45,15 @@ fn load_table(alloc: Global) -> Result<TableName, AllocError>
         db: Name::new(Vec::from_slice(alloc, b"load")?),
         table: Name::new(Vec::from_slice(alloc, b"load")?),
     })
+}
+
+/// The text of a table.
+fn text_of(alloc: Global, schema: &Schema, rows: &BTreeMap<Row, Row>) -> Result<Bytes, AllocError>
+    ensures { IfOk result (λ text. text ≡ table_text schema.now.columns schema.now.primary schema.now.uniques (values rows.now) (length (values rows.now))) }
+{
+    let mut text = Vec::new(alloc);
+    push_table(alloc, &mut text, schema, rows)?;
+    Ok(Bytes::new(text))
 }
 
 /// The text of the sources' rows over the join of their schemas.

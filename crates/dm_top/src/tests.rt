@@ -3,11 +3,14 @@ use dm_base::{MemoryJournal, MemoryShelf, MemorySink};
 use std::alloc::{AllocError, Global};
 use std::test::Fail;
 
-/// The files `a.sql`, `b.sql` and so on, and which calls of the shelf and of the sink fail.
+/// The files `a.sql`, `b.sql` and so on, the journal's bytes, and which calls of the shelf, of the journal and of the sink
+/// fail.
 #[derive(Clone, Copy)]
 struct Outside<'a> {
     texts: &'a [&'a [u8]],
+    journal: &'a [u8],
     failing_reads: &'a [u64],
+    failing_loads: &'a [u64],
     failing_puts: &'a [u64],
 }
 
@@ -23,8 +26,17 @@ const NAMES: [&str; 3] = ["a.sql", "b.sql", "c.sql"];
 fn files<'a>(texts: &'a [&'a [u8]]) -> Outside<'a> {
     Outside {
         texts,
+        journal: b"",
         failing_reads: &[],
+        failing_loads: &[],
         failing_puts: &[],
+    }
+}
+
+fn journal<'a>(bytes: &'a [u8]) -> Outside<'a> {
+    Outside {
+        journal: bytes,
+        ..files(&[])
     }
 }
 
@@ -41,7 +53,11 @@ fn run(alloc: Global, words: &[&str], outside: Outside<'_>) -> Result<Ended, All
     }
     let mut shelf = MemoryShelf::new(names, contents, outside.failing_reads.to_vec(alloc)?);
     let mut out = MemorySink::new(Vec::new(alloc), outside.failing_puts.to_vec(alloc)?);
-    let journal = MemoryJournal::new(Vec::new(alloc), Vec::new(alloc), Vec::new(alloc));
+    let journal = MemoryJournal::new(
+        outside.journal.to_vec(alloc)?,
+        outside.failing_loads.to_vec(alloc)?,
+        Vec::new(alloc),
+    );
     let (status, _) = dm_plain(alloc, &given, &mut shelf, journal, &mut out);
     Ok(Ended {
         status,
@@ -275,7 +291,7 @@ fn refuses_words_that_are_no_command(rt: HostRuntime) -> Result<(), Fail> {
         &[],
         &["load"],
         &["merge", "a.sql"],
-        &["show"],
+        &["show", "a.sql"],
         &["check-task", "a.sql", "--limit", "3"],
     ];
     for words in wrong {
@@ -287,9 +303,8 @@ fn refuses_words_that_are_no_command(rt: HostRuntime) -> Result<(), Fail> {
 #[test]
 fn says_that_a_read_failed(rt: HostRuntime) -> Result<(), Fail> {
     let outside = Outside {
-        texts: &[FIRST, SECOND],
         failing_reads: &[2],
-        failing_puts: &[],
+        ..files(&[FIRST, SECOND])
     };
     assert!(rt; ends_with(rt.alloc(), &LOAD_BOTH, outside, 4, b"fault ReadFault\n")?);
     Ok(())
@@ -299,11 +314,107 @@ fn says_that_a_read_failed(rt: HostRuntime) -> Result<(), Fail> {
 fn says_that_a_put_failed(rt: HostRuntime) -> Result<(), Fail> {
     let alloc = rt.alloc();
     let outside = Outside {
-        texts: &[FIRST],
-        failing_reads: &[],
         failing_puts: &[1],
+        ..files(&[FIRST])
     };
     assert!(rt; ends_with(alloc, &["load", "a.sql"], outside, 5, b"")?);
     assert!(rt; ends_with(alloc, &[], outside, 5, b"")?);
+    Ok(())
+}
+
+#[test]
+fn says_that_the_journal_was_not_loaded(rt: HostRuntime) -> Result<(), Fail> {
+    let outside = Outside {
+        failing_loads: &[1],
+        ..journal(b"")
+    };
+    assert!(rt; ends_with(rt.alloc(), &["show"], outside, 6, b"fault TargetFault\n")?);
+    Ok(())
+}
+
+#[test]
+fn shows_nothing_of_a_journal_without_records(rt: HostRuntime) -> Result<(), Fail> {
+    let alloc = rt.alloc();
+    for torn in [b"".as_slice(), b"-- dm 0000000003\nab"] {
+        assert!(rt; ends_with(alloc, &["show"], journal(torn), 0, b"")?);
+    }
+    Ok(())
+}
+
+#[test]
+fn names_the_byte_at_which_a_journal_is_bad(rt: HostRuntime) -> Result<(), Fail> {
+    let want = b"fault JournalBad 0\n";
+    assert!(rt; ends_with(rt.alloc(), &["show"], journal(b"hello"), 8, want)?);
+    Ok(())
+}
+
+/// Two records: a text of two metas, and a CREATE.
+const JOURNAL: &[u8] = b"-- dm 0000000233\n\
+    BEGIN;\n\
+    REPLACE INTO `dm_meta`.`state` (`name`,`text`) VALUES ('lock `m`.`t`','{\"order\":[],\"version\":1}');\n\
+    REPLACE INTO `dm_meta`.`state` (`name`,`text`) VALUES ('shard a `s`.`t0`','{\"position\":0,\"version\":1,\"window\":1000}');\n\
+    COMMIT;\n\
+    -- dm 0000000084\n\
+    CREATE TABLE `m`.`t` (`id` INT NOT NULL, `v` VARCHAR(20) NULL, PRIMARY KEY (`id`));\n";
+
+const METAS_SHOWN: &[u8] = b"meta lock `m`.`t` {\"order\":[],\"version\":1}\n\
+    meta shard a `s`.`t0` {\"position\":0,\"version\":1,\"window\":1000}\n";
+
+#[test]
+fn shows_tables_and_texts(rt: HostRuntime) -> Result<(), Fail> {
+    let want = b"table `m`.`t`\n\
+        column `id` INT NOT NULL\n\
+        column `v` VARCHAR(20) NULL\n\
+        primary (`id`)\n\
+        rows 0\n\
+        meta lock `m`.`t` {\"order\":[],\"version\":1}\n\
+        meta shard a `s`.`t0` {\"position\":0,\"version\":1,\"window\":1000}\n";
+    assert!(rt; ends_with(rt.alloc(), &["show"], journal(JOURNAL), 0, want)?);
+    Ok(())
+}
+
+#[test]
+fn passes_over_a_torn_record(rt: HostRuntime) -> Result<(), Fail> {
+    let alloc = rt.alloc();
+    let mut torn = JOURNAL.to_vec(alloc)?;
+    torn.pop();
+    assert!(rt; ends_with(alloc, &["show"], journal(&torn), 0, METAS_SHOWN)?);
+    Ok(())
+}
+
+#[test]
+fn names_the_byte_behind_whole_records(rt: HostRuntime) -> Result<(), Fail> {
+    let alloc = rt.alloc();
+    let mut bytes = JOURNAL.to_vec(alloc)?;
+    bytes.push(b'x')?;
+    assert!(rt;
+        ends_with(
+            alloc,
+            &["show"],
+            journal(&bytes),
+            8,
+            b"fault JournalBad 351\n"
+        )?
+    );
+    Ok(())
+}
+
+/// The header of the CREATE tells a byte less than it has.
+#[test]
+fn names_the_record_whose_length_is_wrong(rt: HostRuntime) -> Result<(), Fail> {
+    let alloc = rt.alloc();
+    let mut bytes = JOURNAL.to_vec(alloc)?;
+    assert_eq!(rt; bytes.len(), 351);
+    assert_eq!(rt; bytes[265], b'4');
+    bytes[265] = b'3';
+    assert!(rt;
+        ends_with(
+            alloc,
+            &["show"],
+            journal(&bytes),
+            8,
+            b"fault JournalBad 250\n"
+        )?
+    );
     Ok(())
 }

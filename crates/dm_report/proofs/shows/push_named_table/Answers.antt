@@ -1,0 +1,9 @@
+use Rattle.std.proofs.lemmas.Result.{on_ok_weaker}
+use Rattle.dm_report.proofs.Parts.{table_printed}
+use Rattle.dm_report.proofs.shows.push_named_table.Goals as goal
+
+pub returns : goal.returns
+returns c =
+    on_ok_weaker c.push_table.result
+    (table_printed c.args.name.now c.args.table.now c.schema.result.now c.rows.result.now c.args.text.now.items c.push_title.new.text.items c.push_table.new.out.items c.schema.ensures c.rows.ensures.entries c.in_ok-push_title.ensures)
+    c.push_table.ensures
