@@ -1,33 +1,32 @@
 -- Tables and alterations are read as they were written.
-use Rattle.std.proofs.Common.{◌≡◌, ℕ, ◌+◌, ◌<◌, ◌≤◌, Bool, true, false, not, ◌&&◌, ◌||◌, ◌⊎◌, inl, inr, List, [], ◌∷◌, ◌++◌, map, length, codes, Option, Some, None, refl, sym, ap, ◌∙◌, subst, append_assoc, arith, eqb-true, ◌==◌}
+use Rattle.std.proofs.Common.{◌≡◌, ℕ, Bool, true, false, not, ◌&&◌, ◌||◌, ◌⊎◌, inl, inr, List, [], ◌∷◌, ◌++◌, map, codes, Some, None, refl, ap, ◌∙◌, append_assoc, arith, eqb-true, ◌==◌}
 use Rattle.std.specs.List.{flat_map, list_all, list_any}
 use Rattle.std.specs.Bool.{beq}
 use Rattle.std.proofs.lemmas.Bool.{and_parts, and_from, or_cases}
 use Rattle.dm_schema.specs.declared.change.Change.{Change}
 use Rattle.dm_schema.specs.declared.change.Change.TheVariants as change_of
-use Rattle.dm_schema.specs.declared.change.Spot.{Spot}
 use Rattle.dm_schema.specs.declared.change.Spot.TheVariants as spot
 use Rattle.dm_schema.specs.declared.column.Column.{Column}
 use Rattle.dm_schema.specs.declared.column.UniqueKey.{UniqueKey}
 use Rattle.dm_schema.specs.declared.table_name.TableName.{TableName}
 use Rattle.dm_schema.specs.Kinds.{is_column, is_key}
 use Rattle.dm_schema.specs.Layout.{Layout}
-use Rattle.dm_schema.specs.Schemas.{all_columns, is_formed, is_unfit_default, names_repeat, column_repeats, key_repeats, some_key_repeats_names, refusals}
+use Rattle.dm_schema.specs.Schemas.{is_formed, is_unfit_default}
 use Rattle.dm_text.specs.Names.{quoted, name_list, table_name_text}
 use Rattle.dm_text.specs.Columns.{column_text, column_part, primary_part, unique_part, parts_text, create_text}
 use Rattle.dm_lex.specs.Lexemes.{starts}
 use Rattle.dm_stmt.specs.declared.record.Record.TheVariants as record_of
-use Rattle.dm_stmt.specs.Records.{keeps_place, goes_last, is_whole_column, is_written_change}
-use Rattle.dm_stmt.specs.Texts.{behind, separated, change_text, alter_text}
+use Rattle.dm_stmt.specs.Records.{is_whole_column, is_written_change}
+use Rattle.dm_stmt.specs.Texts.{behind, change_text, alter_text}
 use Rattle.dm_stmt_read.specs.Reading.{is_typed_column, is_typed_change}
-use Rattle.dm_stmt_read.specs.Readers.{Reader, and_then, just, given, accept, expect, name, names, table_name, further}
-use Rattle.dm_stmt_read.specs.Columns.{column, unique_key, next_column, next_unique, layout_of}
+use Rattle.dm_stmt_read.specs.Readers.{accept}
+use Rattle.dm_stmt_read.specs.Columns.{column, next_column, next_unique}
 use Rattle.dm_stmt_read.specs.Columns.{layout as read_layout}
 use Rattle.dm_stmt_read.specs.Lines.{key_change, change, next_change, alter, create}
 use Rattle.dm_stmt_read.proofs.Taking.{takes_word, passes_word, Takes, takes_further, mapped}
 use Rattle.dm_stmt_read.proofs.Tokens.{takes_name}
 use Rattle.dm_stmt_read.proofs.ColumnTexts.{is_good, EndsColumn, ends_column, column_ends, takes_names, takes_table_name, takes_column, takes_unique, columns_taken, uniques_taken, formed_is_joined}
-use Rattle.dm_stmt_read.proofs.OpTexts.{IsWhole, is_whole}
+use Rattle.dm_stmt_read.proofs.OpTexts.{is_whole}
 
 -- Tables.
 

@@ -1,10 +1,9 @@
 -- Names, columns, keys and tables are read as they were written.
-use Rattle.std.proofs.Common.{◌≡◌, ℕ, suc, ◌+◌, ◌/◌, ◌^◌, ◌<◌, ◌≤◌, ℤ, pos, negsuc, int_lt, unsigned_abs, Bool, true, false, not, ◌&&◌, ◌||◌, ◌⊎◌, inl, inr, take, nat_eq, cond, List, [], ◌∷◌, ◌++◌, map, length, codes, Option, Some, None, is_none, refl, sym, ap, ◌∙◌, subst, append_assoc, arith, eqb, leb, ltb, eqb-true, leb-true, le-ltb, ◌==◌}
-use Rattle.std.specs.List.{flat_map, list_all, list_any, starts_with}
+use Rattle.std.proofs.Common.{◌≡◌, ℕ, ◌/◌, ◌^◌, ◌≤◌, pos, negsuc, int_lt, unsigned_abs, Bool, true, false, not, ◌&&◌, ◌||◌, ◌⊎◌, inl, inr, take, nat_eq, cond, List, [], ◌∷◌, ◌++◌, map, length, codes, Option, Some, None, is_none, refl, sym, ap, ◌∙◌, subst, append_assoc, arith, eqb, leb, eqb-true, leb-true, le-ltb, ◌==◌}
+use Rattle.std.specs.List.{flat_map, list_all, starts_with}
 use Rattle.std.specs.Cmp.Lexicographic.{pointwise}
 use Rattle.std.specs.Fmt.{decimal}
-use Rattle.std.specs.Result.{result_ok}
-use Rattle.std.proofs.lemmas.Bool.{and_parts, or_cases, not-true}
+use Rattle.std.proofs.lemmas.Bool.{and_parts, or_cases}
 use Rattle.dm_value.specs.declared.value.Value.{Value}
 use Rattle.dm_value.specs.declared.value.Value.TheVariants as variant
 use Rattle.dm_schema.specs.declared.column.Kind.{Kind}
@@ -18,21 +17,20 @@ use Rattle.dm_schema.specs.Fits.{fits_by}
 use Rattle.dm_schema.specs.Kinds.{is_kind, is_rule, is_folded, is_column, is_key}
 use Rattle.dm_schema.specs.Layout.{Layout}
 use Rattle.dm_schema.specs.Schemas.{is_formed, is_unfit_default, refusals}
-use Rattle.dm_list.specs.Answer.{first_refusal, unless_refused}
-use Rattle.dm_text.specs.Names.{quoted, behind_comma, with_commas, name_list, table_name_text}
+use Rattle.dm_list.specs.Answer.{first_refusal}
+use Rattle.dm_text.specs.Names.{quoted, behind_comma, name_list, table_name_text}
 use Rattle.dm_text.specs.Kinds.{kind_text, fraction_digits, fraction_text, is_binary}
 use Rattle.dm_text.specs.Values.{value_text, places_text, bytes_text}
-use Rattle.dm_text.specs.Columns.{nullable_text, default_text, column_text, column_part, primary_part, unique_part}
+use Rattle.dm_text.specs.Columns.{nullable_text, default_text, column_text, column_part, unique_part}
 use Rattle.dm_lex.specs.Lexemes.{starts, is_digit}
 use Rattle.dm_reread.specs.Parts.{may_follow, has_bytes, default_has_bytes}
 use Rattle.dm_reread.proofs.Digits.{decimal_is_digits, decimal_some}
 use Rattle.dm_stmt_read.specs.Reading.{has_length, is_typed_column}
-use Rattle.dm_stmt_read.specs.Readers.{Reader, and_then, just, given, accept, name, value, next_name, names, table_name, further}
-use Rattle.dm_stmt_read.specs.Columns.{fraction, read_kind, nullable, written_default, default_rule, column, unique_key, column_item, next_column, next_unique, layout_of}
-use Rattle.dm_stmt_read.specs.Columns.{layout as read_layout}
+use Rattle.dm_stmt_read.specs.Readers.{accept, next_name, names, table_name}
+use Rattle.dm_stmt_read.specs.Columns.{read_kind, nullable, written_default, default_rule, column, unique_key, column_item, next_column, next_unique, layout_of}
 use Rattle.dm_stmt_read.proofs.Taking.{takes_word, passes_word, Takes, takes_further, mapped}
 use Rattle.dm_stmt_read.proofs.Tokens.{takes_name, takes_value}
-use Rattle.dm_stmt_read.proofs.KindTexts.{null_word, takes_fraction, takes_kind}
+use Rattle.dm_stmt_read.proofs.KindTexts.{takes_fraction, takes_kind}
 
 -- Lists of names.
 
@@ -117,9 +115,6 @@ value_no_clock k variant.Null behind = refl
 value_no_clock k (variant.Int (pos n)) behind = number_no_clock n behind
 value_no_clock k (variant.Int (negsuc n)) behind = refl
 value_no_clock k (variant.Dec d) behind = by (int_lt d.digits (pos 0)) where
-  whole : ℕ
-  whole = unsigned_abs d.digits / 10 ^ d.scale
-
   by : (minus : Bool) → IsNoClock (((cond minus (45 ∷ []) [] ++ decimal (unsigned_abs d.digits / 10 ^ d.scale)) ++ places_text d.scale (unsigned_abs d.digits)) ++ behind)
   by true = refl
   by false =

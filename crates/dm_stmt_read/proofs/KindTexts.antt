@@ -1,15 +1,15 @@
 -- Kinds are read as they were written.
-use Rattle.std.proofs.Common.{◌≡◌, ℕ, ◌+◌, ◌<◌, ◌≤◌, Bool, true, false, ◌&&◌, ◌||◌, nat_eq, cond, List, [], ◌∷◌, ◌++◌, codes, Option, Some, None, refl, sym, ap, ◌∙◌, subst, append_assoc, arith, eqb, leb, eqb-true, leb-true, ◌==◌}
+use Rattle.std.proofs.Common.{◌≡◌, ℕ, ◌<◌, ◌≤◌, Bool, true, false, ◌||◌, nat_eq, cond, List, [], ◌∷◌, ◌++◌, codes, Some, refl, sym, ap, ◌∙◌, append_assoc, arith, eqb, leb, eqb-true, leb-true}
 use Rattle.std.specs.List.{starts_with}
 use Rattle.std.specs.Fmt.{decimal}
-use Rattle.std.proofs.lemmas.Bool.{and_parts, ne_eqb}
+use Rattle.std.proofs.lemmas.Bool.{and_parts}
 use Rattle.dm_schema.specs.declared.column.Kind.{Kind}
 use Rattle.dm_schema.specs.declared.column.Kind.TheVariants as kind
 use Rattle.dm_schema.specs.Kinds.{is_between, is_integer_size, is_kind}
 use Rattle.dm_text.specs.Kinds.{integer_text, prefix_text, fraction_text, kind_text}
-use Rattle.dm_stmt_read.specs.Readers.{and_then, just, given, accept, expect, number, small}
+use Rattle.dm_stmt_read.specs.Readers.{and_then, just, accept}
 use Rattle.dm_stmt_read.specs.Reading.{has_length}
-use Rattle.dm_stmt_read.specs.Columns.{in_brackets, fraction, integer_size, integer_kind, text_kind, blob_kind, decimal_kind, sized_kind, other_kind, or_else, or_integer, any_kind, read_kind}
+use Rattle.dm_stmt_read.specs.Columns.{in_brackets, fraction, integer_size, integer_kind, text_kind, blob_kind, decimal_kind, sized_kind, other_kind, or_else, any_kind, read_kind}
 use Rattle.dm_stmt_read.proofs.Taking.{takes_word, passes_word}
 use Rattle.dm_stmt_read.proofs.Tokens.{takes_number, takes_small}
 

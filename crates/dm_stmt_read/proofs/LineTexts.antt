@@ -1,27 +1,22 @@
 -- Operations are read as they were written.
-use Rattle.std.proofs.Common.{◌≡◌, ℕ, zero, suc, ◌+◌, ◌<◌, ◌≤◌, Bool, true, false, not, ◌&&◌, ◌||◌, cond, nat_eq, List, [], ◌∷◌, ◌++◌, map, length, codes, Option, Some, None, refl, sym, ap, ◌∙◌, subst, append_assoc, arith, eqb-true, ◌==◌}
-use Rattle.std.specs.List.{flat_map, filter_map, cons_option, zip, list_all, list_any, starts_with}
-use Rattle.std.specs.Cmp.Lexicographic.{pointwise}
-use Rattle.std.proofs.lemmas.Bool.{and_parts, not-true}
+use Rattle.std.proofs.Common.{◌≡◌, ℕ, zero, suc, ◌<◌, ◌≤◌, Bool, true, false, not, ◌&&◌, ◌||◌, cond, List, [], ◌∷◌, ◌++◌, map, length, codes, Some, None, refl, sym, ap, ◌∙◌, subst, append_assoc, arith, ◌==◌}
+use Rattle.std.specs.List.{flat_map, cons_option, zip, list_all, list_any}
+use Rattle.std.proofs.lemmas.Bool.{and_parts}
 use Rattle.std.proofs.lemmas.List.{length-append}
-use Rattle.dm_list.specs.Answer.{first_refusal}
 use Rattle.dm_value.specs.declared.value.Value.{Value}
 use Rattle.dm_schema.specs.declared.column.Column.{Column}
-use Rattle.dm_schema.specs.declared.table_name.TableName.{TableName}
-use Rattle.dm_schema.specs.Fits.{fits, fits_by}
+use Rattle.dm_schema.specs.Fits.{fits}
 use Rattle.dm_schema.specs.Kinds.{is_kind, is_rule, is_folded, is_column}
-use Rattle.dm_schema.specs.Layout.{Layout}
 use Rattle.dm_schema.specs.Names.{Text, same_name, column_at, has_column}
-use Rattle.dm_schema.specs.Schemas.{all_columns, names_repeat}
-use Rattle.dm_text.specs.Names.{quoted, behind_comma, with_commas, name_list, table_name_text}
+use Rattle.dm_schema.specs.Schemas.{all_columns}
+use Rattle.dm_text.specs.Names.{quoted, behind_comma, with_commas}
 use Rattle.dm_text.specs.Values.{value_text, value_texts, tuple_text}
-use Rattle.dm_lex.specs.Lexemes.{starts}
 use Rattle.dm_reread.specs.Parts.{may_follow, has_bytes}
 use Rattle.dm_table.proofs.CellLaws.{equal_names}
 use Rattle.dm_stmt.specs.Records.{fit_columns}
 use Rattle.dm_stmt.specs.Texts.{behind, separated, columns_named, equation, equations}
 use Rattle.dm_stmt_read.specs.Reading.{are_typed}
-use Rattle.dm_stmt_read.specs.Readers.{Reader, and_then, just, given, before, many, further_pairs, each, accept, expect, name, value}
+use Rattle.dm_stmt_read.specs.Readers.{and_then, just, before, many, further_pairs, each}
 use Rattle.dm_stmt_read.specs.Lines.{cell, marked_cell, cells, assignment, next_assignment, assignments, condition, conditions}
 use Rattle.dm_stmt_read.proofs.Taking.{takes_word, passes_word}
 use Rattle.dm_stmt_read.proofs.Tokens.{takes_name, takes_value}
@@ -176,10 +171,7 @@ no_next : (columns : List Column) (left : List ℕ) → next_assignment columns 
 unfolding next_assignment
 no_next columns left = rw (passes_word (codes ",") (32 ∷ left) refl) refl
 
--- what stands behind an assignment
-more_assigned : List Column → List Value → List ℕ
-more_assigned cs vs = flat_map behind_comma (equations cs vs)
-
+-- what stands behind an assignment may follow it
 assigned_follows : (cs : List Column) (vs : List Value) (left : List ℕ) → may_follow (flat_map behind_comma (equations cs vs) ++ (32 ∷ left)) ≡ true
 assigned_follows [] vs left = refl
 assigned_follows (c ∷ cs) [] left = refl

@@ -1,11 +1,10 @@
 -- The lines of a transaction are read as they were written.
-use Rattle.std.proofs.Common.{◌≡◌, ℕ, ◌+◌, ◌<◌, ◌≤◌, Bool, true, false, not, ◌&&◌, ◌||◌, cond, List, [], ◌∷◌, ◌++◌, length, codes, Option, Some, None, is_none, refl, sym, ap, ◌∙◌, subst, append_assoc, arith, leb, ◌==◌}
-use Rattle.std.specs.List.{flat_map, list_all, list_any}
+use Rattle.std.proofs.Common.{◌≡◌, ℕ, ◌≤◌, Bool, true, false, not, ◌&&◌, ◌||◌, List, [], ◌∷◌, ◌++◌, length, codes, Some, None, is_none, refl, ap, ◌∙◌, append_assoc, arith, leb, ◌==◌}
+use Rattle.std.specs.List.{list_all, list_any}
 use Rattle.std.proofs.lemmas.Bool.{and_parts, ne_eqb}
 use Rattle.dm_list.specs.Answer.{first_refusal}
 use Rattle.dm_value.specs.declared.value.Value.{Value}
 use Rattle.dm_schema.specs.declared.column.Column.{Column}
-use Rattle.dm_schema.specs.declared.fault.SchemaFault.{SchemaFault}
 use Rattle.dm_schema.specs.declared.fault.SchemaFault.TheVariants as fault
 use Rattle.dm_schema.specs.declared.table_name.TableName.{TableName}
 use Rattle.dm_schema.specs.Kinds.{is_column, is_key}
@@ -22,11 +21,11 @@ use Rattle.dm_stmt.specs.Texts.{separated, columns_named, equations, where_text,
 use Rattle.dm_stmt_read.specs.Reading.{are_typed, is_typed_op}
 use Rattle.dm_stmt_read.specs.declared.ops.Verb.{Verb}
 use Rattle.dm_stmt_read.specs.declared.ops.Verb.TheVariants as verb_of
-use Rattle.dm_stmt_read.specs.Readers.{and_then, just, accept, expect}
-use Rattle.dm_stmt_read.specs.Lines.{read_verb, head, cells, row, conditions, key, assignments, update, delete, op_by, op, next_op}
+use Rattle.dm_stmt_read.specs.Readers.{accept}
+use Rattle.dm_stmt_read.specs.Lines.{read_verb, head, row, conditions, key, update, delete, op_by, op, next_op}
 use Rattle.dm_stmt_read.proofs.Taking.{takes_word, passes_word, Takes}
 use Rattle.dm_stmt_read.proofs.ColumnTexts.{takes_names, takes_table_name}
-use Rattle.dm_stmt_read.proofs.LineTexts.{AreNamed, are_named, marked, takes_cells, tuple_marked, stated, takes_conditions, where_stated, takes_assignments}
+use Rattle.dm_stmt_read.proofs.LineTexts.{AreNamed, are_named, marked, takes_cells, tuple_marked, takes_conditions, where_stated, takes_assignments}
 
 -- What a formed schema has.
 

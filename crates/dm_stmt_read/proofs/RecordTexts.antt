@@ -1,6 +1,5 @@
 -- Records are read as they were written.
-use Rattle.std.proofs.Common.{◌≡◌, ℕ, suc, ◌+◌, ◌^◌, ◌<◌, ◌≤◌, Bool, true, false, not, ◌&&◌, cond, List, [], ◌∷◌, ◌++◌, map, length, codes, Option, Some, None, Result, Ok, Err, nat_eq, refl, sym, ap, ◌∙◌, subst, append_assoc, append-nil, arith, ltb, lt-ltb, ltb-true, ◌==◌}
-use Rattle.std.specs.Prelude.{IsTrue}
+use Rattle.std.proofs.Common.{◌≡◌, ℕ, ◌^◌, ◌<◌, ◌≤◌, Bool, true, false, not, ◌&&◌, List, [], ◌∷◌, ◌++◌, length, codes, Option, Some, None, Result, Ok, Err, nat_eq, refl, sym, ap, ◌∙◌, subst, append_assoc, arith, ltb, lt-ltb, ltb-true}
 use Rattle.std.specs.List.{flat_map, list_all}
 use Rattle.std.specs.Option.{option_map_or}
 use Rattle.std.specs.Result.{IsErrAnd}
@@ -28,7 +27,7 @@ use Rattle.dm_stmt.specs.Texts.{change_text, op_text, meta_text, transaction, re
 use Rattle.dm_stmt_read.specs.Reading.{is_typed_change, is_typed_op, is_typed, IsTextOf}
 use Rattle.dm_stmt_read.specs.declared.ops.Verb.{Verb}
 use Rattle.dm_stmt_read.specs.declared.ops.Verb.TheVariants as verb_of
-use Rattle.dm_stmt_read.specs.Readers.{Reader, and_then, just, given, ahead, accept, expect, string, further}
+use Rattle.dm_stmt_read.specs.Readers.{and_then, just, ahead, further}
 use Rattle.dm_stmt_read.specs.Lines.{create, alter, head, meta, next_meta, next_op, lines, later_record, any_record}
 use Rattle.dm_stmt_read.specs.Lines.{transaction as read_transaction}
 use Rattle.dm_stmt_read.specs.Lines.{pair as read_pair}

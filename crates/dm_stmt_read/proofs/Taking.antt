@@ -1,10 +1,10 @@
 -- What readers take from the front of a text: words, and values in turn.
-use Rattle.std.proofs.Common.{◌≡◌, ℕ, zero, suc, ◌+◌, ◌<◌, ◌≤◌, nat_eq, Bool, true, false, ◌&&◌, cond, List, [], ◌∷◌, ◌++◌, take, drop, length, map, codes, Option, Some, None, refl, sym, ap, ◌∙◌, subst, append_assoc, append-nil, arith, eq-eqb, take_at, drop_at}
+use Rattle.std.proofs.Common.{◌≡◌, ℕ, zero, suc, ◌<◌, ◌≤◌, nat_eq, Bool, true, false, List, [], ◌∷◌, ◌++◌, length, map, Option, Some, None, refl, sym, ap, ◌∙◌, subst, append_assoc, arith, eq-eqb, take_at, drop_at}
 use Rattle.std.specs.List.{flat_map, list_all, starts_with}
 use Rattle.std.specs.Cmp.Lexicographic.{pointwise}
 use Rattle.std.proofs.lemmas.Bool.{and_parts}
 use Rattle.std.proofs.lemmas.List.{length-append}
-use Rattle.dm_stmt_read.specs.Readers.{Reader, and_then, just, before, many, up_to, further, accept, expect}
+use Rattle.dm_stmt_read.specs.Readers.{Reader, and_then, just, before, many, further, accept}
 
 -- Words.
 
@@ -21,9 +21,6 @@ takes_word word behind =
 pub passes_word : (word left : List ℕ) → starts_with nat_eq left word ≡ false → accept word left ≡ Some (false, left)
 unfolding accept
 passes_word word left other = rw other refl
-
-pub takes_expected : (word behind : List ℕ) → expect word (word ++ behind) ≡ Some (tt, behind)
-takes_expected word behind = rw (takes_word word behind) refl
 
 -- Values in turn.
 

@@ -1,6 +1,6 @@
 -- Names and values are read as they were written, before what may follow.
-use Rattle.std.proofs.Common.{◌≡◌, ℕ, zero, suc, ◌+◌, ◌-◌, ◌^◌, ◌<◌, ◌≤◌, pos, nat_eq, eqb, leb, ltb, Bool, true, false, ◌&&◌, cond, List, [], ◌∷◌, ◌++◌, take, drop, length, map, codes, Option, Some, None, refl, sym, ap, ◌∙◌, subst, append_assoc, append-nil, arith, eqb-true, lt-ltb, le-leb, zero-add, take_at, drop_at}
-use Rattle.std.specs.List.{starts_with, flat_map}
+use Rattle.std.proofs.Common.{◌≡◌, ℕ, ◌-◌, ◌^◌, ◌<◌, pos, nat_eq, eqb, leb, ltb, Bool, true, false, ◌&&◌, cond, List, [], ◌∷◌, ◌++◌, take, drop, length, codes, Some, refl, sym, ap, ◌∙◌, subst, append-nil, arith, eqb-true, lt-ltb, le-leb, zero-add, take_at, drop_at}
+use Rattle.std.specs.List.{starts_with}
 use Rattle.std.specs.Fmt.{decimal}
 use Rattle.std.proofs.lemmas.Bool.{and_parts, and_from}
 use Rattle.dm_value.specs.declared.value.Value.{Value}
@@ -16,10 +16,10 @@ use Rattle.dm_lex.specs.declared.token.TokenKind.{TokenKind}
 use Rattle.dm_lex.specs.declared.token.TokenKind.TheVariants as token
 use Rattle.dm_lex.specs.declared.lexeme.Lexeme.TheVariants as lexeme
 use Rattle.dm_lex.specs.Lexemes.{starts, begins_dashes, line_length, lexeme_of}
-use Rattle.dm_lex.specs.Literals.{string_of, fitting, literal_of}
+use Rattle.dm_lex.specs.Literals.{fitting, literal_of}
 use Rattle.dm_syntax.specs.Names.{name_of}
 use Rattle.dm_lex.specs.Tokens.{Lexed}
-use Rattle.dm_reread.specs.Parts.{Part, Piece, text_of, tokens_from, is_piece, is_spelled_before, may_follow, word, mark, has_bytes, name_item, value_parts}
+use Rattle.dm_reread.specs.Parts.{Part, Piece, text_of, is_piece, is_spelled_before, may_follow, word, mark, has_bytes, value_parts}
 use Rattle.dm_reread.specs.Read.{IsRead, Null, Literal, Minus, is_literal}
 use Rattle.dm_reread.proofs.Composing.{parts_are_lexed_at}
 use Rattle.dm_reread.proofs.Names.{name_token_is_read, string_is_read}
@@ -28,7 +28,7 @@ use Rattle.dm_reread.proofs.Follows.{ends}
 use Rattle.dm_reread.proofs.Written.{value_is_written}
 use Rattle.dm_reread.proofs.Spelled.{name_is_spelled, value_is_spelled}
 use Rattle.dm_reread.proofs.Reading.{value_is_read}
-use Rattle.dm_stmt_read.specs.Readers.{first_of, front, told, name, literal, value, whole_of, small_of, bytes_in, number, small, string, accept, and_then, given}
+use Rattle.dm_stmt_read.specs.Readers.{first_of, front, told, name, literal, value, whole_of, small_of, bytes_in, number, small, string, and_then, given}
 use Rattle.dm_stmt_read.proofs.Taking.{takes_word, passes_word}
 
 -- the token of so many bytes at the front

@@ -1,5 +1,5 @@
 -- How columns, keys and tables are read. It serves the proof alone.
-use Rattle.std.specs.Prelude.{◌≡◌, ℕ, Bool, true, false, ◌&&◌, List, [], ◌∷◌, codes, Option, Some, None, if◌then◌else◌}
+use Rattle.std.specs.Prelude.{ℕ, Bool, true, false, ◌&&◌, List, [], codes, Option, Some, None, if◌then◌else◌}
 use Rattle.std.specs.Result.{result_ok}
 use Rattle.std.specs.List.{list_all}
 use Rattle.dm_schema.specs.declared.column.Kind.{Kind}
@@ -8,11 +8,10 @@ use Rattle.dm_schema.specs.declared.column.Column.{Column}
 use Rattle.dm_schema.specs.declared.column.UniqueKey.{UniqueKey}
 use Rattle.dm_schema.specs.declared.column.DefaultRule.{DefaultRule}
 use Rattle.dm_schema.specs.declared.column.DefaultRule.TheVariants as default
-use Rattle.dm_schema.specs.declared.table_name.TableName.{TableName}
 use Rattle.dm_schema.specs.Kinds.{is_kind, is_column, is_key}
 use Rattle.dm_schema.specs.Layout.{Layout}
 use Rattle.dm_schema.specs.Schemas.{joined_schema_of}
-use Rattle.dm_stmt_read.specs.Readers.{Reader, just, failing, given, and_then, ◌>>=◌, many, further, one_if, accept, expect, value, number, small, name, names, table_name}
+use Rattle.dm_stmt_read.specs.Readers.{Reader, just, failing, given, ◌>>=◌, further, one_if, accept, expect, value, number, small, name, names}
 
 -- Kinds.
 

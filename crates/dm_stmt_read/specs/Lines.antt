@@ -1,5 +1,5 @@
 -- How alterations, operations and records are read. It serves the proof alone.
-use Rattle.std.specs.Prelude.{◌≡◌, ℕ, Bool, true, false, List, [], ◌∷◌, map, codes, Option, Some, None, if◌then◌else◌}
+use Rattle.std.specs.Prelude.{ℕ, true, List, [], ◌∷◌, codes, Option, Some, None, if◌then◌else◌}
 use Rattle.dm_value.specs.declared.value.Value.{Value}
 use Rattle.dm_schema.specs.declared.change.Change.{Change}
 use Rattle.dm_schema.specs.declared.change.Change.TheVariants as change_of
@@ -17,7 +17,7 @@ use Rattle.dm_stmt.specs.Known.{KnownMap, schema_in}
 use Rattle.dm_stmt.specs.Records.{is_meta_table}
 use Rattle.dm_stmt_read.specs.declared.ops.Verb.{Verb}
 use Rattle.dm_stmt_read.specs.declared.ops.Verb.TheVariants as verb_of
-use Rattle.dm_stmt_read.specs.Readers.{Reader, just, failing, given, and_then, ◌>>=◌, ahead, many, further, further_pairs, each, one_if, accept, expect, value, string, name, names, table_name}
+use Rattle.dm_stmt_read.specs.Readers.{Reader, just, given, ◌>>=◌, ahead, further, further_pairs, each, one_if, accept, expect, value, string, name, names, table_name}
 use Rattle.dm_stmt_read.specs.Columns.{column, unique_key, layout}
 
 -- Changes.

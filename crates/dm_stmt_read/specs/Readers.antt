@@ -1,6 +1,6 @@
 -- How the reader goes over a text: functions from what is left of it to what is read and what is left behind that, or to
 -- nothing. They serve the proof alone: what is promised stands in `Reading`.
-use Rattle.std.specs.Prelude.{◌≡◌, ℕ, zero, suc, ℤ, pos, negsuc, nat_eq, nat_lt, Bool, true, false, List, [], ◌∷◌, ◌++◌, codes, map, drop, length, slice_range, Option, Some, None, Result, Ok, Err, if◌then◌else◌}
+use Rattle.std.specs.Prelude.{◌≡◌, ℕ, zero, suc, pos, nat_eq, nat_lt, Bool, true, false, List, [], ◌∷◌, ◌++◌, codes, map, drop, length, slice_range, Option, Some, None, Result, Ok, Err, if◌then◌else◌}
 use Rattle.std.specs.Option.{option_map}
 use Rattle.std.specs.List.{starts_with}
 use Rattle.dm_value.specs.declared.value.Value.{Value}

@@ -1,4 +1,3 @@
-ghost use Rattle.std.specs.Prelude.{◌≡◌, ◌∷◌, []};
 ghost use Rattle.dm_stmt_read.specs.Readers.{Reads, further};
 ghost use Rattle.dm_stmt_read.specs.Lines.{key_change, change, next_change, alter, create};
 

@@ -1,5 +1,5 @@
 ghost use Rattle.std.specs.Prelude.{◌≡◌, Some, IsTrue, IfOk};
-ghost use Rattle.dm_schema.specs.Kinds.{is_kind, is_integer_size, is_between};
+ghost use Rattle.dm_schema.specs.Kinds.{is_kind, is_integer_size};
 ghost use Rattle.dm_stmt_read.specs.Readers.{Reads};
 ghost use Rattle.dm_stmt_read.specs.Columns.{in_brackets, fraction, integer_size, integer_kind, text_kind, blob_kind, decimal_kind, sized_kind, other_kind, any_kind, read_kind};
 

@@ -1,4 +1,4 @@
-ghost use Rattle.std.specs.Prelude.{◌≡◌, []};
+ghost use Rattle.std.specs.Prelude.{[]};
 ghost use Rattle.dm_stmt_read.specs.Readers.{Reads, further};
 ghost use Rattle.dm_stmt_read.specs.Lines.{pair, meta, next_meta};
 

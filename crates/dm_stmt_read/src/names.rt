@@ -1,4 +1,3 @@
-ghost use Rattle.std.specs.Prelude.{◌≡◌, ◌∷◌, [], length};
 ghost use Rattle.dm_stmt_read.specs.Readers.{Reads, further, next_name, names, table_name};
 
 use crate::RecordFault;

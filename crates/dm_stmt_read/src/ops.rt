@@ -1,9 +1,8 @@
-ghost use Rattle.std.specs.Prelude.{◌≡◌, ◌∷◌, [], codes, Some, IsTrue, IfSome};
+ghost use Rattle.std.specs.Prelude.{◌≡◌, [], codes, Some, IsTrue, IfSome};
 ghost use Rattle.std.specs.List.{list_all};
 ghost use Rattle.std.specs.Option.{option_copied};
 ghost use Rattle.dm_schema.specs.Kinds.{is_column};
 ghost use Rattle.dm_schema.specs.Names.{column_at};
-ghost use Rattle.dm_schema.specs.declared.table_name.TableName.{TableName};
 ghost use Rattle.dm_stmt_read.specs.Readers.{Reads, further, further_pairs};
 ghost use Rattle.dm_stmt_read.specs.Lines.{read_verb, head, cell, marked_cell, cells, row, assignment, next_assignment, assignments, condition, conditions, key, update, delete, op_by, op, next_op};
 

@@ -1,10 +1,9 @@
 ghost use Rattle.std.specs.Prelude.{◌≡◌, ◌<◌, ◌^◌, length, IfOk, IsErrOf};
-ghost use Rattle.dm_schema.specs.declared.table_name.TableName.{TableName};
 ghost use Rattle.dm_stmt.specs.declared.record.Record.{Record};
 ghost use Rattle.dm_stmt_read.specs.Reading.{IsTextOf};
 ghost use Rattle.dm_stmt.specs.Records.{is_meta_table};
-ghost use Rattle.dm_stmt_read.specs.Readers.{Reads, ahead};
-ghost use Rattle.dm_stmt_read.specs.Lines.{head, lines, transaction, later_record, any_record};
+ghost use Rattle.dm_stmt_read.specs.Readers.{Reads};
+ghost use Rattle.dm_stmt_read.specs.Lines.{lines, transaction, later_record, any_record};
 
 use crate::RecordFault;
 use crate::changes::{alter, create};
