@@ -6,3 +6,4 @@ pub mod Judging
 pub mod Meeting
 pub mod Following
 pub mod Seeing
+pub mod Shapes
