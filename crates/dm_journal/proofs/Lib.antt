@@ -4,4 +4,5 @@ pub mod Fronts
 pub mod Headers
 pub mod KnownSchemas
 pub mod Laws
+pub mod OpsRecords
 pub mod Taking
