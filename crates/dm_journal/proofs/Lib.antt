@@ -1,3 +1,4 @@
+pub mod AlterRecords
 pub mod FoldedKeys
 pub mod FramingLaws
 pub mod Fronts
