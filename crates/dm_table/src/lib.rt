@@ -11,6 +11,7 @@ mod keyed;
 mod left;
 mod op;
 mod said;
+mod shapes;
 mod sharing;
 mod table;
 #[cfg(test)]
@@ -18,4 +19,5 @@ mod tests;
 
 pub use fault::TableFault;
 pub use op::RowOp;
+pub use shapes::is_shaped;
 pub use table::Table;
