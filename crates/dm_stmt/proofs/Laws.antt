@@ -21,7 +21,8 @@ use Rattle.dm_target.specs.Contents.{table_name_cmp}
 use Rattle.dm_stmt.specs.declared.record.Record.{Record}
 use Rattle.dm_stmt.specs.declared.record.Record.TheVariants as record_of
 use Rattle.dm_stmt.specs.Known.{KnownMap, schema_in}
-use Rattle.dm_stmt.specs.Records.{are_ops, is_empty, is_meta_table, is_record, is_written_change}
+use Rattle.dm_target.specs.Asking.{is_meta_table}
+use Rattle.dm_stmt.specs.Records.{are_ops, is_empty, is_record, is_written_change}
 use Rattle.dm_stmt.specs.Texts.{change_text, columns_named, meta_text, op_text, record_text, separated, transaction}
 use Rattle.dm_stmt.proofs.SchemaMaps.{total}
 

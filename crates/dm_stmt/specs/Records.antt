@@ -1,5 +1,5 @@
 -- Which records are written: those that a text can say.
-use Rattle.std.specs.Prelude.{Bool, true, false, not, ◌&&◌, ◌==◌, List, length, codes}
+use Rattle.std.specs.Prelude.{Bool, true, false, not, ◌&&◌, ◌==◌, List, length}
 use Rattle.std.specs.Option.{option_map_or}
 use Rattle.std.specs.List.{list_all}
 use Rattle.std.specs.Cmp.Lexicographic.{pointwise}
@@ -9,23 +9,19 @@ use Rattle.dm_schema.specs.declared.change.Change.TheVariants as change
 use Rattle.dm_schema.specs.declared.change.Spot.{Spot}
 use Rattle.dm_schema.specs.declared.change.Spot.TheVariants as spot
 use Rattle.dm_schema.specs.declared.column.Column.{Column}
-use Rattle.dm_schema.specs.declared.table_name.TableName.{TableName}
 use Rattle.dm_schema.specs.Fits.{fits}
 use Rattle.dm_schema.specs.Kinds.{is_column, is_key}
 use Rattle.dm_schema.specs.Layout.{Layout}
-use Rattle.dm_schema.specs.Names.{Text, same_name}
+use Rattle.dm_schema.specs.Names.{Text}
 use Rattle.dm_schema.specs.Schemas.{all_columns, is_formed, is_unfit_default, names_repeat}
 use Rattle.dm_table.specs.Contents.{Row}
 use Rattle.dm_table.specs.declared.op.RowOp.{RowOp}
 use Rattle.dm_table.specs.declared.op.RowOp.TheVariants as op
+use Rattle.dm_target.specs.Asking.{is_meta_table}
 use Rattle.dm_stmt.specs.declared.record.Record.{Record}
 use Rattle.dm_stmt.specs.declared.record.Record.TheVariants as record_of
 use Rattle.dm_stmt.specs.Known.{KnownMap, schema_in}
 use Rattle.dm_stmt.specs.Texts.{columns_named}
-
--- the table of the texts under names, which is no target's
-abbrev pub is_meta_table : TableName → Bool
-is_meta_table table = same_name table.db (codes "dm_meta") && same_name table.table (codes "state")
 
 abbrev pub is_empty : {A : Type 0} → List A → Bool
 is_empty xs = length xs == 0

@@ -3,7 +3,8 @@ ghost use Rattle.std.specs.List.{list_all};
 ghost use Rattle.std.specs.Option.{option_map_or};
 ghost use Rattle.dm_schema.specs.Schemas.{is_formed};
 ghost use Rattle.dm_stmt.specs.Known.{schema_in};
-ghost use Rattle.dm_stmt.specs.Records.{are_ops, goes_last, is_meta_table, is_op, is_record, is_written_change, keeps_place};
+ghost use Rattle.dm_target.specs.Asking.{is_meta_table};
+ghost use Rattle.dm_stmt.specs.Records.{are_ops, goes_last, is_op, is_record, is_written_change, keeps_place};
 
 use crate::column_checks::{is_key, is_whole_column};
 use crate::op_checks::is_op;

@@ -22,7 +22,8 @@ use Rattle.dm_reread.proofs.Lexing.{EscapeOf, Pair, Plain, escape_of}
 use Rattle.dm_stmt.specs.declared.record.Record.{Record}
 use Rattle.dm_stmt.specs.declared.record.Record.TheVariants as record_of
 use Rattle.dm_stmt.specs.Known.{KnownMap, schema_in}
-use Rattle.dm_stmt.specs.Records.{is_empty, is_meta_table, is_op, are_ops, is_written_change, is_record}
+use Rattle.dm_target.specs.Asking.{is_meta_table}
+use Rattle.dm_stmt.specs.Records.{is_empty, is_op, are_ops, is_written_change, is_record}
 use Rattle.dm_stmt.specs.Texts.{change_text, op_text, meta_text, transaction, record_text}
 use Rattle.dm_stmt_read.specs.Reading.{is_typed_change, is_typed_op, is_typed, IsTextOf}
 use Rattle.dm_stmt_read.specs.declared.ops.Verb.{Verb}

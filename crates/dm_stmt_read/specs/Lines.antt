@@ -14,7 +14,7 @@ use Rattle.dm_target.specs.declared.call.Meta.{Meta}
 use Rattle.dm_stmt.specs.declared.record.Record.{Record}
 use Rattle.dm_stmt.specs.declared.record.Record.TheVariants as record_of
 use Rattle.dm_stmt.specs.Known.{KnownMap, schema_in}
-use Rattle.dm_stmt.specs.Records.{is_meta_table}
+use Rattle.dm_target.specs.Asking.{is_meta_table}
 use Rattle.dm_stmt_read.specs.declared.ops.Verb.{Verb}
 use Rattle.dm_stmt_read.specs.declared.ops.Verb.TheVariants as verb_of
 use Rattle.dm_stmt_read.specs.Readers.{Reader, just, given, ◌>>=◌, ahead, further, further_pairs, each, one_if, accept, expect, value, string, name, names, table_name}

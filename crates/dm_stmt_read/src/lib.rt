@@ -16,3 +16,4 @@ mod types;
 
 pub use fault::RecordFault;
 pub use record::read_record;
+pub use types::record_types;

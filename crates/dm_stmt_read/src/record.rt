@@ -1,7 +1,7 @@
 ghost use Rattle.std.specs.Prelude.{◌≡◌, ◌<◌, ◌^◌, length, IfOk, IsErrOf};
 ghost use Rattle.dm_stmt.specs.declared.record.Record.{Record};
 ghost use Rattle.dm_stmt_read.specs.Reading.{IsTextOf};
-ghost use Rattle.dm_stmt.specs.Records.{is_meta_table};
+ghost use Rattle.dm_target.specs.Asking.{is_meta_table};
 ghost use Rattle.dm_stmt_read.specs.Readers.{Reads};
 ghost use Rattle.dm_stmt_read.specs.Lines.{lines, transaction, later_record, any_record};
 

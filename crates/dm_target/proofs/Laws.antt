@@ -8,7 +8,6 @@ use Rattle.std.specs.FinMap as fin
 use Rattle.std.specs.FinMap.{get-insert}
 use Rattle.dm_schema.specs.declared.table_name.TableName.{TableName}
 use Rattle.dm_schema.specs.Names.{Text, name_cmp}
-use Rattle.dm_schema.specs.Schemas.{in_order}
 use Rattle.dm_table.specs.declared.fault.TableFault.{TableFault}
 use Rattle.dm_table.specs.Contents.{TableContent}
 use Rattle.dm_table.specs.Operations.{table_applied}
@@ -37,8 +36,8 @@ other_table content own other (Ok table) h = get-insert table_name_total content
 
 -- a call leaves every table but its own
 pub untouched : (c : Call) (table : TableName) (content : Content) → touches c table ≡ false → IfOk (effect c content) (λ left. table_of left table ≡ table_of content table)
-untouched (call.Create own layout) table content h = other_table content own table (created (table_of content own) (in_order layout)) h
-untouched (call.Alter own layout) table content h = other_table content own table (if_there (table_of content own) (λ t. altered t (in_order layout))) h
+untouched (call.Create own layout) table content h = other_table content own table (created (table_of content own) layout) h
+untouched (call.Alter own layout) table content h = other_table content own table (if_there (table_of content own) (λ t. altered t layout)) h
 untouched (call.Apply own ops) table content h = other_table content own table (if_there (table_of content own) (λ t. table_applied t ops)) h
 untouched (call.Metas pairs) table content h = refl
 
@@ -50,8 +49,8 @@ same_texts content own (Ok table) = refl
 
 -- a call of a table keeps the texts
 pub keeps_texts : (c : Call) (table : TableName) (content : Content) → touches c table ≡ true → IfOk (effect c content) (λ left. left.metas ≡ content.metas)
-keeps_texts (call.Create own layout) table content h = same_texts content own (created (table_of content own) (in_order layout))
-keeps_texts (call.Alter own layout) table content h = same_texts content own (if_there (table_of content own) (λ t. altered t (in_order layout)))
+keeps_texts (call.Create own layout) table content h = same_texts content own (created (table_of content own) layout)
+keeps_texts (call.Alter own layout) table content h = same_texts content own (if_there (table_of content own) (λ t. altered t layout))
 keeps_texts (call.Apply own ops) table content h = same_texts content own (if_there (table_of content own) (λ t. table_applied t ops))
 keeps_texts (call.Metas pairs) table content h = absurd (cc)
 
@@ -75,7 +74,7 @@ texts_stay content own (Ok table) name = refl
 
 -- a call leaves every text that it doesn't set
 pub unset : (c : Call) (name : Text) (content : Content) → sets c name ≡ false → IfOk (effect c content) (λ left. meta_of left name ≡ meta_of content name)
-unset (call.Create own layout) name content h = texts_stay content own (created (table_of content own) (in_order layout)) name
-unset (call.Alter own layout) name content h = texts_stay content own (if_there (table_of content own) (λ t. altered t (in_order layout))) name
+unset (call.Create own layout) name content h = texts_stay content own (created (table_of content own) layout) name
+unset (call.Alter own layout) name content h = texts_stay content own (if_there (table_of content own) (λ t. altered t layout)) name
 unset (call.Apply own ops) name content h = texts_stay content own (if_there (table_of content own) (λ t. table_applied t ops)) name
 unset (call.Metas pairs) name content h = other_text pairs content.metas name h

@@ -4,4 +4,5 @@ mod Entries
 pub mod Laws
 mod Orders
 mod Taking
+pub mod OrderedTwice
 pub mod Ordering

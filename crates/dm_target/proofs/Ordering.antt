@@ -1,17 +1,16 @@
 -- A schema stays one when its columns and keys are put in order.
-use Rattle.std.proofs.Common.{◌≡◌, Bool, true, false, ◌==◌, List, length, Ok, Err, sym, ap, ◌∙◌}
-use Rattle.std.specs.Prelude.{IsTrue, nat_le, not}
+use Rattle.std.proofs.Common.{◌≡◌, Bool, true, false, List, Ok, ap, ◌∙◌}
+use Rattle.std.specs.Prelude.{IsTrue, nat_le}
 use Rattle.std.specs.List.{list_any, list_all}
 use Rattle.dm_schema.specs.declared.column.Column.{Column}
-use Rattle.dm_schema.specs.declared.column.UniqueKey.{UniqueKey}
 use Rattle.dm_schema.specs.Kinds.{is_column, is_key}
 use Rattle.dm_schema.specs.Layout.{Layout}
 use Rattle.dm_schema.specs.Names.{Text, has_column, repeats, same_name}
 use Rattle.dm_schema.specs.NameOrder.{columns_in_order, in_order_of, uniques_in_order}
-use Rattle.dm_schema.specs.Schemas.{all_columns, column_repeats, has_nullable, in_order, is_formed, is_nullable_column, is_unfit_default, joined_schema_of, key_repeats, names_repeat, some_key_repeats_names}
+use Rattle.dm_schema.specs.Schemas.{all_columns, in_order, is_formed, is_nullable_column, is_unfit_default, joined_schema_of, names_repeat}
 use Rattle.dm_join.proofs.Formed.{Formed, formed_parts, formed_makes}
 use Rattle.dm_join.proofs.JoinFormed.{unique_name}
-use Rattle.dm_join.proofs.Lists.{IsIn, all_from, all_of, any_from, any_of, none_from, none_of}
+use Rattle.dm_join.proofs.Lists.{all_from, all_of, any_from, any_of, none_from, none_of}
 use Rattle.dm_join.proofs.Orders.{apart_from, apart_ordered, apart_repeats, column_name, from_ordered, in_ordered, length_ordered}
 
 all_ordered : {A : Type 0} (test : A → Bool) (name : A → Text) (xs : List A) → list_all test xs ≡ true → list_all test (in_order_of name xs) ≡ true

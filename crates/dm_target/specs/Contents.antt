@@ -6,7 +6,6 @@ use Rattle.dm_value.specs.declared.value.Value.{Value}
 use Rattle.dm_schema.specs.declared.table_name.TableName.{TableName}
 use Rattle.dm_schema.specs.contracts.table_name.TableNameOrd.TheImpl as table_name_ord
 use Rattle.dm_schema.specs.Layout.{Layout}
-use Rattle.dm_schema.specs.Schemas.{in_order}
 use Rattle.dm_schema.specs.Names.{Text, name_cmp}
 use Rattle.std.specs.declared.cmp.Ordering.{Ordering}
 use Rattle.dm_table.specs.declared.fault.TableFault.{TableFault}
@@ -49,8 +48,6 @@ abbrev pub with_metas : List Meta → FinMap name_cmp Text → FinMap name_cmp T
 with_metas [] texts = texts
 with_metas (pair ∷ pairs) texts = with_metas pairs (fin.insert texts pair.name pair.text)
 
--- A target keeps the columns and unique keys of a table in byte order of their names, however they are given.
-
 -- a table that isn't there is made
 abbrev pub created : Option TableContent → Layout → Result TableContent TableFault
 created None layout = Ok (new_table layout)
@@ -63,8 +60,8 @@ if_there (Some table) change = change table
 
 -- what a call leaves, or why it leaves nothing
 abbrev pub effect : Call → Content → Result Content TableFault
-effect (call.Create name layout) content = with_table content name (created (table_of content name) (in_order layout))
-effect (call.Alter name layout) content = with_table content name (if_there (table_of content name) (λ table. altered table (in_order layout)))
+effect (call.Create name layout) content = with_table content name (created (table_of content name) layout)
+effect (call.Alter name layout) content = with_table content name (if_there (table_of content name) (λ table. altered table layout))
 effect (call.Apply name ops) content = with_table content name (if_there (table_of content name) (λ table. table_applied table ops))
 effect (call.Metas pairs) content = Ok (record { tables = content.tables; metas = with_metas pairs content.metas })
 

@@ -1,6 +1,7 @@
 ghost use Rattle.std.specs.Prelude.{◌≡◌, ◌+◌, ◌≤◌, ◌&&◌, ◌↔◌, false, not, IsTrue, IsSome, IsErrOf};
 ghost use Rattle.dm_base.specs.Outside.{Rose, raised};
-ghost use Rattle.dm_target.specs.Writing.{Writes, Grows, NotFailed};
+ghost use Rattle.dm_schema.specs.Schemas.{in_order};
+ghost use Rattle.dm_target.specs.Writing.{Writes, Grows, NotFailed, IsProper, IsWhole};
 ghost use Rattle.dm_target.specs.Fuses.{blow_at, Leaves};
 ghost use Rattle.dm_target.specs.declared.call.Call.TheVariants.{Create, Alter, Apply, Metas};
 
@@ -60,14 +61,16 @@ impl<T: Target> Target for FuseTarget<T> {
         table: &TableName,
         schema: &Schema,
     ) -> Result<(), TargetError>
-        requires { IsTrue (not self.old.fuse.blown && T.sound self.old.inner) }
-        ensures written { Writes (Create table.now schema.now) (T.full self.old.inner) (T.content self.old.inner) (T.content self.new.inner) result }
-        ensures calls { Grows (Create table.now schema.now) (T.calls self.old.inner) (T.calls self.new.inner) result }
+        requires sound { IsTrue (not self.old.fuse.blown && T.sound self.old.inner) }
+        requires proper { IsProper (Create table.now schema.now) (T.content self.old.inner) }
+        ensures written { Writes (Create table.now (in_order schema.now)) (T.full self.old.inner) (T.content self.old.inner) (T.content self.new.inner) result }
+        ensures calls { Grows (Create table.now (in_order schema.now)) (T.calls self.old.inner) (T.calls self.new.inner) result }
         ensures sound { IsTrue (not self.new.fuse.blown && T.sound self.new.inner) ↔ NotFailed result }
         ensures faults { self.old.fuse.broken + T.faults self.old.inner ≤ self.new.fuse.broken + T.faults self.new.inner }
         ensures failed { IsErrOf result TargetError.Failed → Rose (self.old.fuse.broken + T.faults self.old.inner) (self.new.fuse.broken + T.faults self.new.inner) }
+        ensures whole { IsErrOf result TargetError.Failed → IsWhole (Create table.now (in_order schema.now)) (T.content self.old.inner) (T.content self.new.inner) (T.calls self.old.inner) (T.calls self.new.inner) }
         ensures fails { IsTrue (T.sound self.new.inner) → (IsErrOf result TargetError.Failed ↔ IsSome (blow_at self.old.fuse.failing.items (raised self.old.fuse.made))) }
-        ensures leaves { Leaves (blow_at self.old.fuse.failing.items (raised self.old.fuse.made)) self.old.inner self.new.inner (λ answer. Writes (Create table.now schema.now) (T.full self.old.inner) (T.content self.old.inner) (T.content self.new.inner) answer × Grows (Create table.now schema.now) (T.calls self.old.inner) (T.calls self.new.inner) answer) }
+        ensures leaves { Leaves (blow_at self.old.fuse.failing.items (raised self.old.fuse.made)) self.old.inner self.new.inner (λ answer. Writes (Create table.now (in_order schema.now)) (T.full self.old.inner) (T.content self.old.inner) (T.content self.new.inner) answer × Grows (Create table.now (in_order schema.now)) (T.calls self.old.inner) (T.calls self.new.inner) answer) }
         ensures counted { self.new.fuse.made ≡ raised self.old.fuse.made }
         ensures list { self.new.fuse.failing ≡ self.old.fuse.failing }
     {
@@ -87,14 +90,16 @@ impl<T: Target> Target for FuseTarget<T> {
         table: &TableName,
         schema: &Schema,
     ) -> Result<(), TargetError>
-        requires { IsTrue (not self.old.fuse.blown && T.sound self.old.inner) }
-        ensures written { Writes (Alter table.now schema.now) (T.full self.old.inner) (T.content self.old.inner) (T.content self.new.inner) result }
-        ensures calls { Grows (Alter table.now schema.now) (T.calls self.old.inner) (T.calls self.new.inner) result }
+        requires sound { IsTrue (not self.old.fuse.blown && T.sound self.old.inner) }
+        requires proper { IsProper (Alter table.now schema.now) (T.content self.old.inner) }
+        ensures written { Writes (Alter table.now (in_order schema.now)) (T.full self.old.inner) (T.content self.old.inner) (T.content self.new.inner) result }
+        ensures calls { Grows (Alter table.now (in_order schema.now)) (T.calls self.old.inner) (T.calls self.new.inner) result }
         ensures sound { IsTrue (not self.new.fuse.blown && T.sound self.new.inner) ↔ NotFailed result }
         ensures faults { self.old.fuse.broken + T.faults self.old.inner ≤ self.new.fuse.broken + T.faults self.new.inner }
         ensures failed { IsErrOf result TargetError.Failed → Rose (self.old.fuse.broken + T.faults self.old.inner) (self.new.fuse.broken + T.faults self.new.inner) }
+        ensures whole { IsErrOf result TargetError.Failed → IsWhole (Alter table.now (in_order schema.now)) (T.content self.old.inner) (T.content self.new.inner) (T.calls self.old.inner) (T.calls self.new.inner) }
         ensures fails { IsTrue (T.sound self.new.inner) → (IsErrOf result TargetError.Failed ↔ IsSome (blow_at self.old.fuse.failing.items (raised self.old.fuse.made))) }
-        ensures leaves { Leaves (blow_at self.old.fuse.failing.items (raised self.old.fuse.made)) self.old.inner self.new.inner (λ answer. Writes (Alter table.now schema.now) (T.full self.old.inner) (T.content self.old.inner) (T.content self.new.inner) answer × Grows (Alter table.now schema.now) (T.calls self.old.inner) (T.calls self.new.inner) answer) }
+        ensures leaves { Leaves (blow_at self.old.fuse.failing.items (raised self.old.fuse.made)) self.old.inner self.new.inner (λ answer. Writes (Alter table.now (in_order schema.now)) (T.full self.old.inner) (T.content self.old.inner) (T.content self.new.inner) answer × Grows (Alter table.now (in_order schema.now)) (T.calls self.old.inner) (T.calls self.new.inner) answer) }
         ensures counted { self.new.fuse.made ≡ raised self.old.fuse.made }
         ensures list { self.new.fuse.failing ≡ self.old.fuse.failing }
     {
@@ -109,12 +114,14 @@ impl<T: Target> Target for FuseTarget<T> {
     }
 
     fn apply(&mut self, alloc: Global, table: &TableName, ops: &[RowOp]) -> Result<(), TargetError>
-        requires { IsTrue (not self.old.fuse.blown && T.sound self.old.inner) }
+        requires sound { IsTrue (not self.old.fuse.blown && T.sound self.old.inner) }
+        requires proper { IsProper (Apply table.now ops.now) (T.content self.old.inner) }
         ensures written { Writes (Apply table.now ops.now) (T.full self.old.inner) (T.content self.old.inner) (T.content self.new.inner) result }
         ensures calls { Grows (Apply table.now ops.now) (T.calls self.old.inner) (T.calls self.new.inner) result }
         ensures sound { IsTrue (not self.new.fuse.blown && T.sound self.new.inner) ↔ NotFailed result }
         ensures faults { self.old.fuse.broken + T.faults self.old.inner ≤ self.new.fuse.broken + T.faults self.new.inner }
         ensures failed { IsErrOf result TargetError.Failed → Rose (self.old.fuse.broken + T.faults self.old.inner) (self.new.fuse.broken + T.faults self.new.inner) }
+        ensures whole { IsErrOf result TargetError.Failed → IsWhole (Apply table.now ops.now) (T.content self.old.inner) (T.content self.new.inner) (T.calls self.old.inner) (T.calls self.new.inner) }
         ensures fails { IsTrue (T.sound self.new.inner) → (IsErrOf result TargetError.Failed ↔ IsSome (blow_at self.old.fuse.failing.items (raised self.old.fuse.made))) }
         ensures leaves { Leaves (blow_at self.old.fuse.failing.items (raised self.old.fuse.made)) self.old.inner self.new.inner (λ answer. Writes (Apply table.now ops.now) (T.full self.old.inner) (T.content self.old.inner) (T.content self.new.inner) answer × Grows (Apply table.now ops.now) (T.calls self.old.inner) (T.calls self.new.inner) answer) }
         ensures counted { self.new.fuse.made ≡ raised self.old.fuse.made }
@@ -131,12 +138,14 @@ impl<T: Target> Target for FuseTarget<T> {
     }
 
     fn put_meta(&mut self, alloc: Global, pairs: &[Meta]) -> Result<(), TargetError>
-        requires { IsTrue (not self.old.fuse.blown && T.sound self.old.inner) }
+        requires sound { IsTrue (not self.old.fuse.blown && T.sound self.old.inner) }
+        requires proper { IsProper (Metas pairs.now) (T.content self.old.inner) }
         ensures written { Writes (Metas pairs.now) (T.full self.old.inner) (T.content self.old.inner) (T.content self.new.inner) result }
         ensures calls { Grows (Metas pairs.now) (T.calls self.old.inner) (T.calls self.new.inner) result }
         ensures sound { IsTrue (not self.new.fuse.blown && T.sound self.new.inner) ↔ NotFailed result }
         ensures faults { self.old.fuse.broken + T.faults self.old.inner ≤ self.new.fuse.broken + T.faults self.new.inner }
         ensures failed { IsErrOf result TargetError.Failed → Rose (self.old.fuse.broken + T.faults self.old.inner) (self.new.fuse.broken + T.faults self.new.inner) }
+        ensures whole { IsErrOf result TargetError.Failed → IsWhole (Metas pairs.now) (T.content self.old.inner) (T.content self.new.inner) (T.calls self.old.inner) (T.calls self.new.inner) }
         ensures fails { IsTrue (T.sound self.new.inner) → (IsErrOf result TargetError.Failed ↔ IsSome (blow_at self.old.fuse.failing.items (raised self.old.fuse.made))) }
         ensures leaves { Leaves (blow_at self.old.fuse.failing.items (raised self.old.fuse.made)) self.old.inner self.new.inner (λ answer. Writes (Metas pairs.now) (T.full self.old.inner) (T.content self.old.inner) (T.content self.new.inner) answer × Grows (Metas pairs.now) (T.calls self.old.inner) (T.calls self.new.inner) answer) }
         ensures counted { self.new.fuse.made ≡ raised self.old.fuse.made }

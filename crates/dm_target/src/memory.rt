@@ -1,8 +1,11 @@
-ghost use Rattle.std.specs.Prelude.{◌≡◌, Some, true, false, map, [], IfOk};
+ghost use Rattle.std.specs.Prelude.{◌≡◌, Some, true, false, [], IfOk};
 ghost use Rattle.std.specs.FinMap as fin;
 ghost use Rattle.dm_target.specs.Contents.{no_content};
+ghost use Rattle.dm_target.specs.Memory.{calls_of, content_of};
+ghost use Rattle.dm_target.specs.Writing.{Writes, Grows, NotFailed};
 
 use crate::copies::{copy_metas, copy_ops};
+use crate::ordered::in_order;
 use crate::tables::Tables;
 use crate::texts::Texts;
 use crate::{Call, Meta, Target, TargetError};
@@ -28,8 +31,8 @@ pub struct MemoryTarget {
 impl MemoryTarget {
     /// A target without tables and texts.
     pub fn new(alloc: Global) -> MemoryTarget
-        ensures content { record { tables = result.tables; metas = result.texts } ≡ no_content }
-        ensures calls { result.calls.items ≡ [] }
+        ensures content { content_of result ≡ no_content }
+        ensures calls { calls_of result ≡ [] }
     {
         MemoryTarget {
             tables: Tables::new(alloc),
@@ -65,12 +68,39 @@ impl MemoryTarget {
     {
         self.texts.in_order()
     }
+
+    /// Makes a call, whatever is asked of calls of targets. The columns and unique keys of its schema stay in their order.
+    pub fn carry_out(&mut self, alloc: Global, call: Call) -> Result<(), TargetError>
+        ensures written { Writes call (λ _. false) (Some (content_of self.old)) (Some (content_of self.new)) result }
+        ensures calls { Grows call (Some (calls_of self.old)) (Some (calls_of self.new)) result }
+        ensures sound { NotFailed result }
+    {
+        self.take_effect(alloc, &call)?;
+        self.calls = self.calls.and(&call, &());
+        Ok(())
+    }
+
+    fn take_effect(&mut self, alloc: Global, call: &Call) -> Result<(), TargetError>
+        ensures written { Writes call.now (λ _. false) (Some (content_of self.old)) (Some (content_of self.new)) result }
+        ensures calls { self.new.calls ≡ self.old.calls }
+        ensures sound { NotFailed result }
+    {
+        match call {
+            Call::Create { table, schema } => Ok(self.tables.create(alloc, table, schema)?),
+            Call::Alter { table, schema } => Ok(self.tables.alter(alloc, table, schema)?),
+            Call::Apply { table, ops } => Ok(self.tables.apply(alloc, table, ops.as_slice())?),
+            Call::Metas { pairs } => {
+                self.texts = self.texts.with_metas(alloc, pairs.as_slice())?;
+                Ok(())
+            }
+        }
+    }
 }
 
 impl Target for MemoryTarget {
-    ghost content = { λ target. Some (record { tables = target.tables; metas = target.texts }) };
+    ghost content = { λ target. Some (content_of target) };
 
-    ghost calls = { λ target. Some (map (λ noted. noted.0) target.calls.items) };
+    ghost calls = { λ target. Some (calls_of target) };
 
     ghost faults = { λ _. 0 };
 
@@ -84,13 +114,12 @@ impl Target for MemoryTarget {
         table: &TableName,
         schema: &Schema,
     ) -> Result<(), TargetError> {
+        let schema = in_order(alloc, schema)?;
         let call = Call::Create {
             table: table.copy(alloc)?,
-            schema: schema.copy(alloc)?,
+            schema,
         };
-        self.tables.create(alloc, table, schema)?;
-        self.calls = self.calls.and(&call, &());
-        Ok(())
+        self.carry_out(alloc, call)
     }
 
     fn alter(
@@ -99,13 +128,12 @@ impl Target for MemoryTarget {
         table: &TableName,
         schema: &Schema,
     ) -> Result<(), TargetError> {
+        let ordered = in_order(alloc, schema)?;
         let call = Call::Alter {
             table: table.copy(alloc)?,
-            schema: schema.copy(alloc)?,
+            schema: ordered,
         };
-        self.tables.alter(alloc, table, schema)?;
-        self.calls = self.calls.and(&call, &());
-        Ok(())
+        self.carry_out(alloc, call)
     }
 
     fn apply(
@@ -118,18 +146,14 @@ impl Target for MemoryTarget {
             table: table.copy(alloc)?,
             ops: copy_ops(alloc, ops)?,
         };
-        self.tables.apply(alloc, table, ops)?;
-        self.calls = self.calls.and(&call, &());
-        Ok(())
+        self.carry_out(alloc, call)
     }
 
     fn put_meta(&mut self, alloc: Global, pairs: &[Meta]) -> Result<(), TargetError> {
         let call = Call::Metas {
             pairs: copy_metas(alloc, pairs)?,
         };
-        self.texts = self.texts.with_metas(alloc, pairs)?;
-        self.calls = self.calls.and(&call, &());
-        Ok(())
+        self.carry_out(alloc, call)
     }
 
     fn schema(&self, table: &TableName) -> Option<&Schema> {

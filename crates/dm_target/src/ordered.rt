@@ -7,7 +7,7 @@ use std::alloc::{AllocError, Global};
 
 #[tactic(auto, using(crate::proofs::Ordering::ordered_columns, crate::proofs::Ordering::ordered_keys, crate::proofs::Ordering::ordered_makes))]
 /// The schema with its columns and unique keys in byte order of their names.
-pub(crate) fn in_order(alloc: Global, schema: &Schema) -> Result<Schema, AllocError>
+pub fn in_order(alloc: Global, schema: &Schema) -> Result<Schema, AllocError>
     ensures { IfOk result (λ ordered. ordered ≡ in_order schema.now) }
 {
     let columns = in_name_order(alloc, schema.columns())?;

@@ -1,13 +1,11 @@
 ghost use Rattle.std.specs.Prelude.{◌≡◌, IfOk};
 ghost use Rattle.std.specs.Option.{option_copied};
 ghost use Rattle.std.specs.FinMap as fin;
-ghost use Rattle.dm_schema.specs.Schemas.{in_order};
 ghost use Rattle.dm_table.specs.Operations.{table_applied};
 ghost use Rattle.dm_table.specs.Alterations.{altered};
 ghost use Rattle.dm_target.specs.Contents.{created, if_there};
 ghost use Rattle.dm_target.specs.Maps.{Changes};
 
-use crate::ordered::in_order;
 use dm_list::Copied;
 use dm_schema::{Schema, TableName};
 use dm_table::{RowOp, Table, TableFault};
@@ -68,12 +66,12 @@ impl Tables {
         name: &TableName,
         schema: &Schema,
     ) -> Result<(), TableFault>
-        ensures { Changes (created (fin.get self.old name.now) (in_order schema.now)) name.now self.old self.new result }
+        ensures { Changes (created (fin.get self.old name.now) schema.now) name.now self.old self.new result }
     {
         if self.tables.contains_key(name) {
             return Err(TableFault::TableExists);
         }
-        let table = Table::new(alloc, in_order(alloc, schema)?);
+        let table = Table::new(alloc, schema.copy(alloc)?);
         self.tables.insert(name.copy(alloc)?, table)?;
         Ok(())
     }
@@ -84,13 +82,12 @@ impl Tables {
         name: &TableName,
         schema: &Schema,
     ) -> Result<(), TableFault>
-        ensures { Changes (if_there (fin.get self.old name.now) (λ table. altered table (in_order schema.now))) name.now self.old self.new result }
+        ensures { Changes (if_there (fin.get self.old name.now) (λ table. altered table schema.now)) name.now self.old self.new result }
     {
-        let ordered = in_order(alloc, schema)?;
         let Some(table) = self.tables.get_mut(name) else {
             return Err(TableFault::NoTable);
         };
-        table.alter(alloc, &ordered)
+        table.alter(alloc, schema)
     }
 
     pub(crate) fn apply(

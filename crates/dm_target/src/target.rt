@@ -2,7 +2,8 @@ ghost use Rattle.std.specs.Prelude.{◌≡◌, ◌≤◌, ◌↔◌, ℕ, Bool, 
 ghost use Rattle.std.specs.Option.{option_copied, option_map};
 ghost use Rattle.dm_base.specs.Outside.{Rose};
 ghost use Rattle.dm_target.specs.Contents.{Content, table_of, meta_of, rows_of};
-ghost use Rattle.dm_target.specs.Writing.{Writes, Grows, NotFailed};
+ghost use Rattle.dm_schema.specs.Schemas.{in_order};
+ghost use Rattle.dm_target.specs.Writing.{Writes, Grows, NotFailed, IsProper, IsWhole};
 ghost use Rattle.dm_target.specs.declared.call.Call.{Call};
 ghost use Rattle.dm_target.specs.declared.call.Call.TheVariants.{Create, Alter, Apply, Metas};
 
@@ -47,6 +48,10 @@ impl<T: Drop> From<AllocFailed<T>> for TargetError {
 
 /// The downstream: tables with rows, and texts by name. Each writing call happens whole or not at all.
 ///
+/// The columns and unique keys of a table are kept in byte order of their names, however they are given, and so a call is
+/// told. A call is to be proper: of a table other than `dm_meta`.`state`, with one operation or text at least, operations
+/// shaped as the table's schema asks, and an alteration to another schema than the table has.
+///
 /// `content` is what it holds, and `calls` the calls that took effect, where they are told. `faults` counts the calls that
 /// failed; until one does, the target is `sound`. `full` says for which calls there is no room.
 pub trait Target {
@@ -67,12 +72,14 @@ pub trait Target {
         table: &TableName,
         schema: &Schema,
     ) -> Result<(), TargetError>
-        requires { IsTrue (sound self.old) }
-        ensures written { Writes (Create table.now schema.now) (full self.old) (content self.old) (content self.new) result }
-        ensures calls { Grows (Create table.now schema.now) (calls self.old) (calls self.new) result }
+        requires sound { IsTrue (sound self.old) }
+        requires proper { IsProper (Create table.now schema.now) (content self.old) }
+        ensures written { Writes (Create table.now (in_order schema.now)) (full self.old) (content self.old) (content self.new) result }
+        ensures calls { Grows (Create table.now (in_order schema.now)) (calls self.old) (calls self.new) result }
         ensures sound { IsTrue (sound self.new) ↔ NotFailed result }
         ensures faults { faults self.old ≤ faults self.new }
-        ensures failed { IsErrOf result TargetError.Failed → Rose (faults self.old) (faults self.new) };
+        ensures failed { IsErrOf result TargetError.Failed → Rose (faults self.old) (faults self.new) }
+        ensures whole { IsErrOf result TargetError.Failed → IsWhole (Create table.now (in_order schema.now)) (content self.old) (content self.new) (calls self.old) (calls self.new) };
 
     /// Gives a table another schema. Columns that stay keep their values, new ones are filled.
     fn alter(
@@ -81,30 +88,36 @@ pub trait Target {
         table: &TableName,
         schema: &Schema,
     ) -> Result<(), TargetError>
-        requires { IsTrue (sound self.old) }
-        ensures written { Writes (Alter table.now schema.now) (full self.old) (content self.old) (content self.new) result }
-        ensures calls { Grows (Alter table.now schema.now) (calls self.old) (calls self.new) result }
+        requires sound { IsTrue (sound self.old) }
+        requires proper { IsProper (Alter table.now schema.now) (content self.old) }
+        ensures written { Writes (Alter table.now (in_order schema.now)) (full self.old) (content self.old) (content self.new) result }
+        ensures calls { Grows (Alter table.now (in_order schema.now)) (calls self.old) (calls self.new) result }
         ensures sound { IsTrue (sound self.new) ↔ NotFailed result }
         ensures faults { faults self.old ≤ faults self.new }
-        ensures failed { IsErrOf result TargetError.Failed → Rose (faults self.old) (faults self.new) };
+        ensures failed { IsErrOf result TargetError.Failed → Rose (faults self.old) (faults self.new) }
+        ensures whole { IsErrOf result TargetError.Failed → IsWhole (Alter table.now (in_order schema.now)) (content self.old) (content self.new) (calls self.old) (calls self.new) };
 
     /// Carries out operations on a table, one after another.
     fn apply(&mut self, alloc: Global, table: &TableName, ops: &[RowOp]) -> Result<(), TargetError>
-        requires { IsTrue (sound self.old) }
+        requires sound { IsTrue (sound self.old) }
+        requires proper { IsProper (Apply table.now ops.now) (content self.old) }
         ensures written { Writes (Apply table.now ops.now) (full self.old) (content self.old) (content self.new) result }
         ensures calls { Grows (Apply table.now ops.now) (calls self.old) (calls self.new) result }
         ensures sound { IsTrue (sound self.new) ↔ NotFailed result }
         ensures faults { faults self.old ≤ faults self.new }
-        ensures failed { IsErrOf result TargetError.Failed → Rose (faults self.old) (faults self.new) };
+        ensures failed { IsErrOf result TargetError.Failed → Rose (faults self.old) (faults self.new) }
+        ensures whole { IsErrOf result TargetError.Failed → IsWhole (Apply table.now ops.now) (content self.old) (content self.new) (calls self.old) (calls self.new) };
 
     /// Sets texts; a text takes the place of an earlier one of its name.
     fn put_meta(&mut self, alloc: Global, pairs: &[Meta]) -> Result<(), TargetError>
-        requires { IsTrue (sound self.old) }
+        requires sound { IsTrue (sound self.old) }
+        requires proper { IsProper (Metas pairs.now) (content self.old) }
         ensures written { Writes (Metas pairs.now) (full self.old) (content self.old) (content self.new) result }
         ensures calls { Grows (Metas pairs.now) (calls self.old) (calls self.new) result }
         ensures sound { IsTrue (sound self.new) ↔ NotFailed result }
         ensures faults { faults self.old ≤ faults self.new }
-        ensures failed { IsErrOf result TargetError.Failed → Rose (faults self.old) (faults self.new) };
+        ensures failed { IsErrOf result TargetError.Failed → Rose (faults self.old) (faults self.new) }
+        ensures whole { IsErrOf result TargetError.Failed → IsWhole (Metas pairs.now) (content self.old) (content self.new) (calls self.old) (calls self.new) };
 
     /// The schema of a table.
     fn schema(&self, table: &TableName) -> Option<&Schema>

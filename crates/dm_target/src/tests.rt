@@ -1,9 +1,10 @@
 ghost use Rattle.std.specs.Prelude.{◌≡◌, IfOk, IsTrue};
 ghost use Rattle.std.specs.List.{list_all};
 ghost use Rattle.dm_schema.specs.Kinds.{is_column, is_folded};
+ghost use Rattle.dm_target.specs.Writing.{IsProper};
 
-use crate::{Blow, FuseTarget, MemoryTarget, Meta, Target, TargetError};
-use dm_list::Bytes;
+use crate::{Blow, Call, FuseTarget, MemoryTarget, Meta, Target, TargetError, is_proper};
+use dm_list::{Bytes, Sequence};
 use dm_schema::{Column, DefaultRule, Kind, Schema, TableName};
 use dm_table::{RowOp, TableFault};
 use dm_value::{Name, Names, Row, Rows, Value};
@@ -25,8 +26,10 @@ I1 => NoTable [] [] [] []
 C I1 I1 => + + Rejected [ d.t] [ 1] [] []
 M N => + + [] [] [] [2]
 O => + [] [] [] [4]
-=1- C M => Failed Failed [] [] [] []
-=1+ C M => Failed Failed [ d.t] [] [] []
+Z => no [] [] [] []
+C A A => + + no [ d.t] [] [] []
+=1- C M => Failed no [] [] [] []
+=1+ C M => Failed no [ d.t] [] [] []
 =2- C A => + Failed [ d.t] [] [] []
 =2- M N => + Failed [] [] [] [1]
 =2+ M N => + Failed [] [] [] [2]
@@ -100,13 +103,12 @@ fn schema(alloc: Global, is_wide: bool) -> Result<Schema, Fail> {
     Ok(Schema::new(columns(alloc, is_wide)?, id, Vec::new(alloc))?)
 }
 
-fn insertion(alloc: Global, sign: u8) -> Result<Vec<RowOp>, AllocError> {
+fn insert(alloc: Global, sign: u8) -> Result<RowOp, AllocError> {
     let row = vec![in alloc; Value::Int(i128::from(sign) - 48)]?;
-    let op = RowOp::Insert {
+    Ok(RowOp::Insert {
         columns: one_name(alloc, "id")?,
         row: Row::new(row),
-    };
-    Ok(vec![in alloc; op]?)
+    })
 }
 
 fn meta(alloc: Global, text: &str) -> Result<Meta, AllocError> {
@@ -120,73 +122,81 @@ fn metas(alloc: Global, word: &[u8]) -> Result<Vec<Meta>, AllocError> {
     Ok(match word {
         [b'M'] => vec![in alloc; meta(alloc, "1")?]?,
         [b'N'] => vec![in alloc; meta(alloc, "2")?]?,
+        [b'Z'] => Vec::new(alloc),
         _ => vec![in alloc; meta(alloc, "3")?, meta(alloc, "4")?]?,
     })
 }
 
-fn create<T: Target>(alloc: Global, target: &mut T) -> Result<Result<(), TargetError>, Fail>
-    requires { IsTrue (T.sound target.old) }
-{
-    let table = table_name(alloc)?;
-    let schema = schema(alloc, false)?;
-    Ok(target.create(alloc, &table, &schema))
+fn creation(alloc: Global) -> Result<Call, Fail> {
+    Ok(Call::Create {
+        table: table_name(alloc)?,
+        schema: schema(alloc, false)?,
+    })
 }
 
-fn alter<T: Target>(alloc: Global, target: &mut T) -> Result<Result<(), TargetError>, Fail>
-    requires { IsTrue (T.sound target.old) }
-{
-    let table = table_name(alloc)?;
-    let schema = schema(alloc, true)?;
-    Ok(target.alter(alloc, &table, &schema))
+fn alteration(alloc: Global) -> Result<Call, Fail> {
+    Ok(Call::Alter {
+        table: table_name(alloc)?,
+        schema: schema(alloc, true)?,
+    })
 }
 
-fn insert<T: Target>(
-    alloc: Global,
-    target: &mut T,
-    sign: u8,
-) -> Result<Result<(), TargetError>, Fail>
-    requires { IsTrue (T.sound target.old) }
-{
-    let table = table_name(alloc)?;
-    let ops = insertion(alloc, sign)?;
-    Ok(target.apply(alloc, &table, &ops))
+fn insertion(alloc: Global, sign: u8) -> Result<Call, AllocError> {
+    let ops = vec![in alloc; insert(alloc, sign)?]?;
+    Ok(Call::Apply {
+        table: table_name(alloc)?,
+        ops: Sequence::new(ops),
+    })
 }
 
-fn put<T: Target>(
-    alloc: Global,
-    target: &mut T,
-    word: &[u8],
-) -> Result<Result<(), TargetError>, Fail>
-    requires { IsTrue (T.sound target.old) }
-{
-    let pairs = metas(alloc, word)?;
-    Ok(target.put_meta(alloc, &pairs))
+fn call_of(alloc: Global, word: &[u8]) -> Result<Call, Fail> {
+    match word {
+        [b'C'] => creation(alloc),
+        [b'A'] => alteration(alloc),
+        [b'I', sign] => Ok(insertion(alloc, *sign)?),
+        _ => Ok(Call::Metas {
+            pairs: Sequence::new(metas(alloc, word)?),
+        }),
+    }
 }
 
+fn made<T: Target>(alloc: Global, target: &mut T, call: &Call) -> Result<(), TargetError>
+    requires sound { IsTrue (T.sound target.old) }
+    requires proper { IsProper call.now (T.content target.old) }
+{
+    match call {
+        Call::Create { table, schema } => target.create(alloc, table, schema),
+        Call::Alter { table, schema } => target.alter(alloc, table, schema),
+        Call::Apply { table, ops } => target.apply(alloc, table, ops.as_slice()),
+        Call::Metas { pairs } => target.put_meta(alloc, pairs.as_slice()),
+    }
+}
+
+/// A call that may not be made has no answer.
 fn call<T: Target>(
     alloc: Global,
     target: &mut T,
     word: &[u8],
-) -> Result<Result<(), TargetError>, Fail> {
+) -> Result<Option<Result<(), TargetError>>, Fail> {
     if !target.is_sound() {
-        return Ok(Err(TargetError::Failed));
+        return Ok(None);
     }
-    match word {
-        [b'C'] => create(alloc, target),
-        [b'A'] => alter(alloc, target),
-        [b'I', sign] => insert(alloc, target, *sign),
-        _ => put(alloc, target, word),
+    let call = call_of(alloc, word)?;
+    if !is_proper(alloc, target, &call)? {
+        return Ok(None);
     }
+    Ok(Some(made(alloc, target, &call)))
 }
 
-fn text_of(answer: &Result<(), TargetError>) -> &'static str {
+fn text_of(answer: &Option<Result<(), TargetError>>) -> &'static str {
     match answer {
-        Ok(()) => " +",
-        Err(TargetError::Rejected(TableFault::NoTable)) => " NoTable",
-        Err(TargetError::Rejected(TableFault::TableExists)) => " TableExists",
-        Err(TargetError::Rejected(_)) => " Rejected",
-        Err(TargetError::Failed) => " Failed",
-        Err(TargetError::Full) | Err(TargetError::Memory) => " ?",
+        None => " no",
+        Some(Ok(())) => " +",
+        Some(Err(TargetError::Rejected(TableFault::NoTable))) => " NoTable",
+        Some(Err(TargetError::Rejected(TableFault::TableExists))) => " TableExists",
+        Some(Err(TargetError::Rejected(_))) => " Rejected",
+        Some(Err(TargetError::Failed)) => " Failed",
+        Some(Err(TargetError::Full)) | Some(Err(TargetError::Memory)) => " ?",
     }
 }
 

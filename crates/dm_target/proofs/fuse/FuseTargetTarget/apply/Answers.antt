@@ -4,13 +4,13 @@ use Rattle.dm_target.specs.declared.blow.Fuse.{Fuse}
 use Rattle.dm_target.proofs.Blowing.{inner_sound, sound_as_inner}
 use Rattle.dm_target.proofs.fuse.FuseTargetTarget.apply.Goals as goal
 
-pub apply-requires : goal.apply-requires
-apply-requires g c = inner_sound c.args.self.now.fuse.blown (g.T.Target.sound c.args.self.now.inner) c.requires
+pub apply-requires-clause-sound : goal.apply-requires-clause-sound
+apply-requires-clause-sound g c = inner_sound c.args.self.now.fuse.blown (g.T.Target.sound c.args.self.now.inner) c.requires.sound
 
-pub apply-requires-in-Some-true : goal.apply-requires-in-Some-true
-apply-requires-in-Some-true g c = inner_sound c.args.self.now.fuse.blown (g.T.Target.sound c.args.self.now.inner) c.requires
+pub apply-requires-in-Some-true-clause-sound : goal.apply-requires-in-Some-true-clause-sound
+apply-requires-in-Some-true-clause-sound g c = inner_sound c.args.self.now.fuse.blown (g.T.Target.sound c.args.self.now.inner) c.requires.sound
 
 pub returns-in-None-clause-sound : goal.returns-in-None-clause-sound
 returns-in-None-clause-sound g c =
-    sound_as_inner c.args.self.now.fuse.blown (g.T.Target.sound c.args.self.now.inner) c.next_blow.new.self.blown (g.T.Target.sound c.apply.new.self) (NotFailed c.apply.result) c.requires
+    sound_as_inner c.args.self.now.fuse.blown (g.T.Target.sound c.args.self.now.inner) c.next_blow.new.self.blown (g.T.Target.sound c.apply.new.self) (NotFailed c.apply.result) c.requires.sound
     (ap (λ (f : Fuse). f.blown) c.next_blow.ensures.counted) c.apply.ensures.sound
