@@ -27,7 +27,7 @@ use Rattle.dm_stmt.specs.Known.{KnownMap}
 use Rattle.dm_stmt.specs.declared.record.Record.{Record}
 use Rattle.dm_stmt.specs.declared.record.Record.TheVariants as record_of
 use Rattle.dm_journal.specs.Contents.{call_of, changed_by, known_of}
-use Rattle.dm_journal.specs.Carrying.{known_behind, schema_of, with_schema}
+use Rattle.dm_journal.specs.Carrying.{known_behind, renewed, schema_of, with_schema}
 
 total : IsTotalOrder table_name_cmp
 total = total-law
@@ -112,15 +112,15 @@ known_of-applied content after name ops h = by (table_of content name) refl h wh
 ok_same : {a b : Content} → ◌≡◌ {A = Result Content TableFault} (Ok a) (Ok b) → a ≡ b
 ok_same e = cc
 
-pub known_behind_record : (said : Record) (before after : Content) (done : Call) → call_of before said ≡ Some done → effect done before ≡ Ok after → known_behind said after (known_of before) ≡ known_of after
+pub known_behind_record : (said : Record) (before after : Content) (done : Call) → call_of before said ≡ Some done → effect done before ≡ Ok after → known_behind (renewed said) after (known_of before) ≡ known_of after
 known_behind_record (record_of.Create table layout) before after done stands leaves =
-    let is : call.Create table layout ≡ done = cc in
+    let is : call.Create table (in_order layout) ≡ done = cc in
     known_of-changed before after table (created (table_of before table) (in_order layout)) (ap (λ (c : Call). effect c before) is ∙ leaves)
 known_behind_record (record_of.Alter table changes) before after done stands leaves = by (option_and_then (λ there. changed_by changes there.layout) (table_of before table)) stands where
-  by : (o : Option Layout) → option_and_then (λ layout. Some (call.Alter table layout)) o ≡ Some done → with_schema (known_of before) table (schema_of after table) ≡ known_of after
+  by : (o : Option Layout) → option_and_then (λ layout. Some (call.Alter table (in_order layout))) o ≡ Some done → with_schema (known_of before) table (schema_of after table) ≡ known_of after
   by None e = absurd cc
   by (Some layout) e =
-      let is : call.Alter table layout ≡ done = cc in
+      let is : call.Alter table (in_order layout) ≡ done = cc in
       known_of-changed before after table (if_there (table_of before table) (λ there. altered there (in_order layout))) (ap (λ (c : Call). effect c before) is ∙ leaves)
 known_behind_record (record_of.Apply table ops) before after done stands leaves =
     let is : call.Apply table ops ≡ done = cc in

@@ -6,4 +6,5 @@ pub mod Headers
 pub mod KnownSchemas
 pub mod Laws
 pub mod OpsRecords
+pub mod Performing
 pub mod Taking

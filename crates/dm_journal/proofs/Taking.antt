@@ -1,6 +1,5 @@
 -- What the front of bytes says of them, and what records that are carried out one after another lead to.
 use Rattle.std.proofs.Common.{◌≡◌, inl, inr, ℕ, ◌+◌, ◌-◌, ◌^◌, ◌<◌, ◌≤◌, List, [], ◌++◌, length, take, drop, Err, sym, ap, subst, ◌∙◌, arith}
-use Rattle.std.specs.Prelude.{map}
 use Rattle.std.proofs.Math.Seq.{take-append-add, take-append_seam}
 use Rattle.std.proofs.lemmas.List.{take-append-drop, length-append, length-drop, length-take-le}
 use Rattle.std.specs.FinMap as fin
@@ -16,7 +15,8 @@ use Rattle.dm_journal.specs.declared.framing.Front.TheVariants as front
 use Rattle.dm_journal.specs.Framing.{Begins, HasRoom, framed}
 use Rattle.dm_journal.specs.Contents.{Does, Holds, IsBadAt, IsRest, Leads, known_of}
 use Rattle.dm_journal.specs.Contents.Leads.{Nowhere}
-use Rattle.dm_journal.specs.Carrying.{Carries, DoesNothing, IsBad, MatchFront, MatchText, Takes, calls_of, content_of}
+use Rattle.dm_target.specs.Memory.{calls_of, content_of}
+use Rattle.dm_journal.specs.Carrying.{Carries, DoesNothing, IsBad, MatchFront, MatchText, Takes}
 use Rattle.dm_journal.proofs.FramingLaws.{framed_unique}
 use Rattle.dm_journal.proofs.KnownSchemas.{nothing_known}
 use Rattle.dm_journal.proofs.Laws.{leads_further, rest_is_not_whole}
@@ -72,12 +72,12 @@ pub record IsReached (bytes : List ℕ) (whole : ℕ) (target : MemoryTarget) (k
   pub leads : Leads no_content (take whole bytes) (calls_of target) (content_of target)
   pub knows : known ≡ known_of (content_of target)
 
-pub nothing_reached : (bytes : List ℕ) (target : MemoryTarget) (known : KnownMap) → content_of target ≡ no_content → target.calls.items ≡ [] → known ≡ fin.empty → IsReached bytes 0 target known
+pub nothing_reached : (bytes : List ℕ) (target : MemoryTarget) (known : KnownMap) → content_of target ≡ no_content → calls_of target ≡ [] → known ≡ fin.empty → IsReached bytes 0 target known
 nothing_reached bytes target known content none empty = record {
   within = omega arith;
   leads =
       subst (λ (c : Content). Leads no_content [] (calls_of target) c) (sym content)
-      (subst (λ (calls : List Call). Leads no_content [] calls no_content) (sym (ap (map (λ noted. noted.0)) none)) (Nowhere no_content));
+      (subst (λ (calls : List Call). Leads no_content [] calls no_content) (sym none) (Nowhere no_content));
   knows = empty ∙ sym nothing_known ∙ ap known_of (sym content);
 }
 

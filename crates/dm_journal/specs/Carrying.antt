@@ -1,5 +1,5 @@
 -- Records of a journal, carried out on a target that is kept in memory.
-use Rattle.std.specs.Prelude.{◌≡◌, ⊤, ℕ, List, [], ◌∷◌, ◌++◌, length, map, Option, Some, None, Result, Ok, Err}
+use Rattle.std.specs.Prelude.{◌≡◌, ⊤, ℕ, List, [], ◌∷◌, ◌++◌, length, Option, Some, None, Result, Ok, Err}
 use Rattle.std.specs.Option.{option_map}
 use Rattle.std.specs.FinMap as fin
 use Rattle.dm_schema.specs.declared.table_name.TableName.{TableName}
@@ -9,6 +9,7 @@ use Rattle.dm_target.specs.declared.memory.MemoryTarget.{MemoryTarget}
 use Rattle.dm_target.specs.declared.target.TargetError.{TargetError}
 use Rattle.dm_target.specs.declared.target.TargetError.TheVariants as error
 use Rattle.dm_target.specs.Contents.{Content, effect, table_of}
+use Rattle.dm_target.specs.Memory.{calls_of, content_of}
 use Rattle.dm_stmt.specs.Known.{KnownMap}
 use Rattle.dm_stmt.specs.declared.record.Record.{Record}
 use Rattle.dm_stmt.specs.declared.record.Record.TheVariants as record_of
@@ -16,13 +17,6 @@ use Rattle.dm_journal.specs.declared.fault.CarryFault.{CarryFault}
 use Rattle.dm_journal.specs.declared.fault.CarryFault.TheVariants as fault
 use Rattle.dm_journal.specs.Framing.{HasRoom, framed}
 use Rattle.dm_journal.specs.Contents.{Does, IsRest, call_of}
-
-abbrev pub content_of : MemoryTarget → Content
-content_of target = record { tables = target.tables; metas = target.texts }
-
--- the calls that took effect
-abbrev pub calls_of : MemoryTarget → List Call
-calls_of target = map (λ noted. noted.0) target.calls.items
 
 -- what the answer of a target says of a record; one in memory never fails, and is never full
 abbrev pub judged : Result (Unit {0}) TargetError → Result (Unit {0}) CarryFault
@@ -60,12 +54,17 @@ abbrev pub with_schema : KnownMap → TableName → Option Layout → KnownMap
 with_schema known table None = known
 with_schema known table (Some layout) = fin.insert known table layout
 
--- with that of the table whose schema the record gave
-abbrev pub known_behind : Record → Content → KnownMap → KnownMap
-known_behind (record_of.Create table layout) content known = with_schema known table (schema_of content table)
-known_behind (record_of.Alter table changes) content known = with_schema known table (schema_of content table)
-known_behind (record_of.Apply table ops) content known = known
-known_behind (record_of.Metas pairs) content known = known
+-- the table that the record gives a schema
+abbrev pub renewed : Record → Option TableName
+renewed (record_of.Create table layout) = Some table
+renewed (record_of.Alter table changes) = Some table
+renewed (record_of.Apply table ops) = None
+renewed (record_of.Metas pairs) = None
+
+-- with that of a table that is given one
+abbrev pub known_behind : Option TableName → Content → KnownMap → KnownMap
+known_behind None content known = known
+known_behind (Some table) content known = with_schema known table (schema_of content table)
 
 -- A record's text.
 

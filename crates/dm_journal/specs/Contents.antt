@@ -7,6 +7,7 @@ use Rattle.dm_schema.specs.declared.column.Kind.{Kind}
 use Rattle.dm_schema.specs.declared.fault.EffectFault.{EffectFault}
 use Rattle.dm_schema.specs.Effect.{joined_effect}
 use Rattle.dm_schema.specs.Layout.{Layout}
+use Rattle.dm_schema.specs.Schemas.{in_order}
 use Rattle.dm_target.specs.Contents.{Content, effect, no_content, table_of}
 use Rattle.dm_target.specs.declared.call.Call.{Call}
 use Rattle.dm_target.specs.declared.call.Call.TheVariants as call
@@ -31,11 +32,12 @@ changed_by changes layout = by (joined_effect no_default layout changes) where
   by (Ok after) = Some after
   by (Err fault) = None
 
--- The call that a record stands for. Of an alteration that is one to the schema that its changes make of the table's.
+-- The call that a record stands for. Of an alteration that is one to the schema that its changes make of the table's. Columns and
+-- keys are told in byte order of their names, as a target keeps them.
 abbrev pub call_of : Content → Record → Option Call
-call_of content (record_of.Create table layout) = Some (call.Create table layout)
+call_of content (record_of.Create table layout) = Some (call.Create table (in_order layout))
 call_of content (record_of.Alter table changes) =
-    option_and_then (λ layout. Some (call.Alter table layout)) (option_and_then (λ there. changed_by changes there.layout) (table_of content table))
+    option_and_then (λ layout. Some (call.Alter table (in_order layout))) (option_and_then (λ there. changed_by changes there.layout) (table_of content table))
 call_of content (record_of.Apply table ops) = Some (call.Apply table ops)
 call_of content (record_of.Metas pairs) = Some (call.Metas pairs)
 

@@ -1,17 +1,18 @@
-ghost use Rattle.std.specs.Prelude.{◌≡◌, ◌<◌, ◌^◌, length, OnOk, IsTrue};
+ghost use Rattle.std.specs.Prelude.{◌≡◌, ◌<◌, ◌^◌, length, IfOk, OnOk, IsTrue};
 ghost use Rattle.std.specs.List.{list_all};
 ghost use Rattle.dm_stmt.specs.Known.{KnownMap};
 ghost use Rattle.dm_stmt.specs.Records.{is_record, is_written_change};
 ghost use Rattle.dm_journal.specs.Contents.{known_of};
-ghost use Rattle.dm_journal.specs.Carrying.{MatchCall, MatchFront, MatchText, content_of, judged, known_behind, schema_of, with_schema};
+ghost use Rattle.dm_target.specs.Memory.{content_of};
+ghost use Rattle.dm_journal.specs.Carrying.{MatchCall, MatchFront, MatchText, judged, known_behind, renewed};
 
 use crate::altering::changed_schema;
 use crate::fault::CarryFault;
 use crate::framing::{Front, HEADER_SIZE, front_of};
-use dm_schema::{Change, TableName};
+use dm_schema::{Change, Copied, TableName};
 use dm_stmt::{Known, Record};
 use dm_stmt_read::{RecordFault, read_record};
-use dm_target::{MemoryTarget, Target, TargetError};
+use dm_target::{Call, MemoryTarget, Target, TargetError, in_order};
 use std::alloc::{AllocError, Global};
 
 /// Carries out the record at the front of bytes, and says how many bytes it has. There is none where the bytes are a
@@ -57,22 +58,26 @@ fn carry_out(
         Err(RecordFault::NotRecord) => return Err(CarryFault::Bad),
         Err(RecordFault::Memory) => return Err(CarryFault::Memory),
     };
-    match call(alloc, target, &record) {
-        Ok(()) => Ok(note(alloc, target, known, &record)?),
+    let renewed = renewed(alloc, &record)?;
+    match call(alloc, target, record) {
+        Ok(()) => Ok(note(alloc, target, known, &renewed)?),
         Err(fault) => Err(fault),
     }
 }
 
 /// Makes the call of a record.
-fn call(alloc: Global, target: &mut MemoryTarget, record: &Record) -> Result<(), CarryFault>
-    requires { (known : KnownMap) × IsTrue (is_record known «record».now) }
-    ensures { MatchCall «record».now target.old target.new result }
+fn call(alloc: Global, target: &mut MemoryTarget, record: Record) -> Result<(), CarryFault>
+    requires { (known : KnownMap) × IsTrue (is_record known «record») }
+    ensures { MatchCall «record» target.old target.new result }
 {
     match record {
-        Record::Create { table, schema } => judged(target.create(alloc, table, schema)),
+        Record::Create { table, schema } => {
+            let schema = in_order(alloc, &schema)?;
+            judged(target.carry_out(alloc, Call::Create { table, schema }))
+        }
         Record::Alter { table, changes } => alter(alloc, target, table, changes.as_slice()),
-        Record::Apply { table, ops } => judged(target.apply(alloc, table, ops.as_slice())),
-        Record::Metas { pairs } => judged(target.put_meta(alloc, pairs.as_slice())),
+        Record::Apply { table, ops } => judged(target.carry_out(alloc, Call::Apply { table, ops })),
+        Record::Metas { pairs } => judged(target.carry_out(alloc, Call::Metas { pairs })),
     }
 }
 
@@ -80,17 +85,20 @@ fn call(alloc: Global, target: &mut MemoryTarget, record: &Record) -> Result<(),
 fn alter(
     alloc: Global,
     target: &mut MemoryTarget,
-    table: &TableName,
+    table: TableName,
     changes: &[Change],
 ) -> Result<(), CarryFault>
     requires { IsTrue (list_all is_written_change changes.now) }
-    ensures { MatchCall (Record.Alter table.now changes.now) target.old target.new result }
+    ensures { MatchCall (Record.Alter table changes.now) target.old target.new result }
 {
-    let Some(schema) = target.schema(table) else {
+    let Some(schema) = target.schema(&table) else {
         return Err(CarryFault::Bad);
     };
     match changed_schema(alloc, schema, changes) {
-        Ok(after) => judged(target.alter(alloc, table, &after)),
+        Ok(after) => {
+            let schema = in_order(alloc, &after)?;
+            judged(target.carry_out(alloc, Call::Alter { table, schema }))
+        }
         Err(fault) => Err(fault),
     }
 }
@@ -108,31 +116,28 @@ fn judged(answer: Result<(), TargetError>) -> Result<(), CarryFault>
     }
 }
 
-/// Notes the schema that a record gave a table, as the target has it.
+/// The table that a record gives a schema.
+fn renewed(alloc: Global, record: &Record) -> Result<Option<TableName>, AllocError>
+    ensures { IfOk result (λ table. table ≡ renewed «record».now) }
+{
+    match record {
+        Record::Create { table, .. } | Record::Alter { table, .. } => Ok(Some(table.copy(alloc)?)),
+        Record::Apply { .. } | Record::Metas { .. } => Ok(None),
+    }
+}
+
+/// Notes the schema of a table that was given one, as the target has it.
 fn note(
     alloc: Global,
     target: &MemoryTarget,
     known: &mut Known,
-    record: &Record,
+    renewed: &Option<TableName>,
 ) -> Result<(), AllocError>
-    ensures { OnOk result (known.new ≡ known_behind «record».now (content_of target.now) known.old) }
+    ensures { OnOk result (known.new ≡ known_behind renewed.now (content_of target.now) known.old) }
 {
-    match record {
-        Record::Create { table, .. } | Record::Alter { table, .. } => {
-            note_schema(alloc, target, known, table)
-        }
-        Record::Apply { .. } | Record::Metas { .. } => Ok(()),
-    }
-}
-
-fn note_schema(
-    alloc: Global,
-    target: &MemoryTarget,
-    known: &mut Known,
-    table: &TableName,
-) -> Result<(), AllocError>
-    ensures { OnOk result (known.new ≡ with_schema known.old table.now (schema_of (content_of target.now) table.now)) }
-{
+    let Some(table) = renewed else {
+        return Ok(());
+    };
     match target.schema(table) {
         Some(schema) => known.put(alloc, table, schema),
         None => Ok(()),

@@ -1,6 +1,6 @@
 ghost use Rattle.std.specs.Prelude.{◌<◌, ◌^◌, length, IfOk, IfErr};
 ghost use Rattle.dm_journal.specs.Answers.{MatchFault};
-ghost use Rattle.dm_journal.specs.Carrying.{content_of, calls_of};
+ghost use Rattle.dm_target.specs.Memory.{calls_of, content_of};
 ghost use Rattle.dm_journal.specs.Contents.{Holds, IsBadAt};
 
 use crate::carrying::take_record;

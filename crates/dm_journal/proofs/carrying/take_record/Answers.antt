@@ -1,5 +1,5 @@
 use Rattle.std.proofs.Common.{◌≡◌, ℕ, ◌+◌, ◌-◌, List, take, drop, refl, ap, arith}
-use Rattle.dm_journal.specs.Carrying.{content_of}
+use Rattle.dm_target.specs.Memory.{content_of}
 use Rattle.dm_journal.proofs.Taking.{other_is_bad, whole_is_taken, whole_is_refused}
 use Rattle.dm_journal.proofs.carrying.take_record.Goals as goal
 

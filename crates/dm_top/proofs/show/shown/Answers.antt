@@ -1,5 +1,5 @@
 use Rattle.std.proofs.Common.{Ok}
-use Rattle.dm_journal.specs.Carrying.{content_of, calls_of}
+use Rattle.dm_target.specs.Memory.{calls_of, content_of}
 use Rattle.dm_top.proofs.Showing.{shows_records}
 use Rattle.dm_top.proofs.show.shown.Goals as goal
 
