@@ -4,3 +4,4 @@ pub mod Carrying
 pub mod Contents
 pub mod Framing
 pub mod Headers
+pub mod Journaled

@@ -4,13 +4,16 @@
 mod altering;
 mod carrying;
 mod content;
+mod doubt;
 #[cfg(test)]
 mod content_tests;
 mod fault;
 mod framing;
+mod parts;
 #[cfg(test)]
 mod tests;
 
 pub use content::{JournalContent, read_content};
 pub use fault::ContentFault;
 pub use framing::{Front, front_of};
+pub use parts::StatementTarget;

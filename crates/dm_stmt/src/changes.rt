@@ -7,7 +7,7 @@ use dm_text::{push_column, push_name, push_name_list, push_table_name};
 use std::alloc::{AllocError, Global};
 
 /// Adds the alteration of a table by all its changes at once.
-pub(crate) fn push_alter(
+pub fn push_alter(
     alloc: Global,
     out: &mut Vec<u8>,
     table: &TableName,

@@ -14,7 +14,10 @@ mod tests;
 mod texts;
 mod values;
 
+pub use changes::push_alter;
 pub use checks::is_record;
 pub use known::Known;
+pub use metas::push_metas;
+pub use ops::push_ops;
 pub use record::Record;
 pub use texts::text_of;

@@ -11,7 +11,7 @@ use dm_value::Value;
 use std::alloc::{AllocError, Global};
 
 /// Adds texts under their names, which are all there or none.
-pub(crate) fn push_metas(alloc: Global, out: &mut Vec<u8>, pairs: &[Meta]) -> Result<(), AllocError>
+pub fn push_metas(alloc: Global, out: &mut Vec<u8>, pairs: &[Meta]) -> Result<(), AllocError>
     ensures { OnOk result
         (out.new.items ≡ out.old.items ++ transaction (flat_map meta_text pairs.now)) }
 {

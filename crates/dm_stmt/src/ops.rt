@@ -11,7 +11,7 @@ use dm_value::{Name, Value};
 use std::alloc::{AllocError, Global};
 
 /// Adds the operations on a table, which happen whole or not at all.
-pub(crate) fn push_ops(
+pub fn push_ops(
     alloc: Global,
     out: &mut Vec<u8>,
     table: &TableName,

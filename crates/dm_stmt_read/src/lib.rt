@@ -16,4 +16,4 @@ mod types;
 
 pub use fault::RecordFault;
 pub use record::read_record;
-pub use types::record_types;
+pub use types::{changes_types, columns_types, ops_types};

@@ -8,7 +8,7 @@ use dm_stmt::Record;
 use dm_table::RowOp;
 
 /// Says of a record what its types do: lengths have 16 bits, and bytes have 8.
-pub fn record_types(written: &Record)
+pub(crate) fn record_types(written: &Record)
     ensures { IsTrue (is_typed written.now) }
 {
     match written {
@@ -37,7 +37,8 @@ fn column_types(column: &Column)
     }
 }
 
-fn columns_types(columns: &[Column])
+/// Says of columns what their types do.
+pub fn columns_types(columns: &[Column])
     ensures { IsTrue (list_all is_typed_column columns.now) }
 {
     for column in columns {
@@ -53,7 +54,8 @@ fn change_types(change: &Change)
     }
 }
 
-fn changes_types(changes: &[Change])
+/// Says of changes what their types do.
+pub fn changes_types(changes: &[Change])
     ensures { IsTrue (list_all is_typed_change changes.now) }
 {
     for change in changes {
@@ -74,7 +76,8 @@ fn op_types(op: &RowOp)
     }
 }
 
-fn ops_types(ops: &[RowOp])
+/// Says of operations what their types do.
+pub fn ops_types(ops: &[RowOp])
     ensures { IsTrue (list_all is_typed_op ops.now) }
 {
     for op in ops {

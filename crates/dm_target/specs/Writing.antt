@@ -23,6 +23,14 @@ Writes call full (Some before) now (Err error.Failed) = (now ≡ Some before) �
 Writes call full (Some before) now (Err error.Full) = ((left : Content) × (effect call before ≡ Ok left)) × IsTrue (full call) × (now ≡ Some before)
 Writes call full (Some before) now (Err error.Memory) = now ≡ Some before
 
+-- What the answer says of a call that is only tried.
+abbrev pub IsTried : Call → Content → Result (Unit {0}) TargetError → Type 0
+IsTried call content (Ok _) = (left : Content) × (effect call content ≡ Ok left)
+IsTried call content (Err (error.Rejected fault)) = effect call content ≡ Err fault
+IsTried call content (Err error.Failed) = ⊥
+IsTried call content (Err error.Full) = ⊥
+IsTried call content (Err error.Memory) = ⊤
+
 -- the call stands behind the others
 abbrev pub AddsCall : Call → List Call → Option (List Call) → Type 0
 AddsCall call before now = now ≡ Some (before ++ call ∷ [])

@@ -14,7 +14,8 @@ impl Copied for Meta {
     }
 }
 
-pub(crate) fn copy_metas(alloc: Global, pairs: &[Meta]) -> Result<Sequence<Meta>, AllocError>
+/// A copy of texts under names.
+pub fn copy_metas(alloc: Global, pairs: &[Meta]) -> Result<Sequence<Meta>, AllocError>
     ensures { IfOk result (λ copies. copies ≡ pairs.now) }
 {
     let mut copies = Vec::with_capacity(alloc, pairs.len())?;
@@ -24,7 +25,8 @@ pub(crate) fn copy_metas(alloc: Global, pairs: &[Meta]) -> Result<Sequence<Meta>
     Ok(Sequence::new(copies))
 }
 
-pub(crate) fn copy_ops(alloc: Global, ops: &[RowOp]) -> Result<Sequence<RowOp>, AllocError>
+/// A copy of operations.
+pub fn copy_ops(alloc: Global, ops: &[RowOp]) -> Result<Sequence<RowOp>, AllocError>
     ensures { IfOk result (λ copies. copies ≡ ops.now) }
 {
     let mut copies = Vec::with_capacity(alloc, ops.len())?;

@@ -18,6 +18,7 @@ mod texts;
 
 pub use blow::Blow;
 pub use call::{Call, Meta};
+pub use copies::{copy_metas, copy_ops};
 pub use fuse::FuseTarget;
 pub use memory::MemoryTarget;
 pub use ordered::in_order;

@@ -2,7 +2,7 @@ ghost use Rattle.std.specs.Prelude.{◌≡◌, Some, true, false, [], IfOk};
 ghost use Rattle.std.specs.FinMap as fin;
 ghost use Rattle.dm_target.specs.Contents.{no_content};
 ghost use Rattle.dm_target.specs.Memory.{calls_of, content_of};
-ghost use Rattle.dm_target.specs.Writing.{Writes, Grows, NotFailed};
+ghost use Rattle.dm_target.specs.Writing.{Writes, Grows, IsTried, NotFailed};
 
 use crate::copies::{copy_metas, copy_ops};
 use crate::ordered::in_order;
@@ -78,6 +78,18 @@ impl MemoryTarget {
         self.take_effect(alloc, &call)?;
         self.calls = self.calls.and(&call, &());
         Ok(())
+    }
+
+    /// What a call would answer, without making it. All that the target holds is copied.
+    pub fn tried(&self, alloc: Global, call: &Call) -> Result<(), TargetError>
+        ensures tried { IsTried call.now (content_of self.now) result }
+    {
+        let mut trial = MemoryTarget {
+            tables: self.tables.copy(alloc)?,
+            texts: self.texts.copy(alloc)?,
+            calls: Log::new(),
+        };
+        trial.take_effect(alloc, call)
     }
 
     fn take_effect(&mut self, alloc: Global, call: &Call) -> Result<(), TargetError>

@@ -1,4 +1,4 @@
-ghost use Rattle.std.specs.Prelude.{◌≡◌, IfOk};
+ghost use Rattle.std.specs.Prelude.{◌≡◌, IfOk, OnOk};
 ghost use Rattle.std.specs.Option.{option_copied};
 ghost use Rattle.std.specs.FinMap as fin;
 ghost use Rattle.dm_table.specs.Operations.{table_applied};
@@ -104,9 +104,26 @@ impl Tables {
         table.apply(alloc, ops)
     }
 
+    fn insert(&mut self, name: TableName, table: Table) -> Result<(), AllocError>
+        ensures { OnOk result (self.new ≡ fin.insert self.old name table) }
+    {
+        self.tables.insert(name, table)?;
+        Ok(())
+    }
+
     pub(crate) fn in_order(&self) -> &BTreeMap<TableName, Table>
         ensures { result.now.entries ≡ fin.entries self.now }
     {
         &self.tables
+    }
+}
+
+impl Copied for Tables {
+    fn copy(&self, alloc: Global) -> Result<Tables, AllocError> {
+        let mut copy = Tables::new(alloc);
+        for (name, table) in self.in_order() {
+            copy.insert(name.copy(alloc)?, table.copy(alloc)?)?;
+        }
+        Ok(copy)
     }
 }
