@@ -49,7 +49,7 @@ find-layouts q (e ∷ es) =
     ap (cond (eq_by_cmp table_name_cmp q e.0) (Some e.1.layout)) (find-layouts q es) ∙ sym (option_map-cond (eq_by_cmp table_name_cmp q e.0) e.1 (find table_name_cmp q es))
 
 -- a table's schema is known as it is
-get-known_of : (content : Content) (q : TableName) → fin.get (known_of content) q ≡ schema_of content q
+pub get-known_of : (content : Content) (q : TableName) → fin.get (known_of content) q ≡ schema_of content q
 get-known_of content q = get-from_entries total (map (λ e. (e.0, e.1.layout)) (fin.entries content.tables)) q ∙ find-layouts q (fin.entries content.tables) ∙ ap (option_map layout_of) (sym (get-entries content.tables q))
 
 pub nothing_known : known_of no_content ≡ fin.empty

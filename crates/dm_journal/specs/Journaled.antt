@@ -1,19 +1,16 @@
 -- A target whose calls are written to a journal: what it holds, and the record of each call.
-use Rattle.std.specs.Prelude.{◌≡◌, ℕ, ◌+◌, ◌≤◌, Bool, false, ◌==◌, nat_lt, List, [], ◌∷◌, length, take, Option, Some, None, IfSome, if◌then◌else◌, Result, Ok, Err}
+use Rattle.std.specs.Prelude.{◌≡◌, ℕ, ◌+◌, Bool, false, ◌==◌, nat_lt, List, [], ◌∷◌, length, Option, Some, None, if◌then◌else◌, Ok}
 use Rattle.std.specs.Option.{option_map_or}
-use Rattle.dm_base.specs.Outside.{AddsPart, added}
 use Rattle.dm_join.specs.Alteration.{alteration}
 use Rattle.dm_target.specs.Contents.{Content, effect, no_content, table_of}
 use Rattle.dm_target.specs.Memory.{calls_of, content_of}
 use Rattle.dm_target.specs.declared.call.Call.{Call}
 use Rattle.dm_target.specs.declared.call.Call.TheVariants as call
 use Rattle.dm_target.specs.declared.memory.MemoryTarget.{MemoryTarget}
-use Rattle.dm_target.specs.declared.target.TargetError.{TargetError}
-use Rattle.dm_target.specs.declared.target.TargetError.TheVariants as error
 use Rattle.dm_stmt.specs.declared.record.Record.{Record}
 use Rattle.dm_stmt.specs.declared.record.Record.TheVariants as record_of
 use Rattle.dm_stmt.specs.Texts.{record_text}
-use Rattle.dm_journal.specs.Contents.{Does, Holds, Leads, known_of}
+use Rattle.dm_journal.specs.Contents.{Does, Leads, known_of}
 use Rattle.dm_journal.specs.Framing.{framed}
 use Rattle.dm_journal.specs.declared.doubt.Doubt.{Doubt}
 

@@ -1,15 +1,14 @@
-ghost use Rattle.std.specs.Prelude.{◌≡◌, IfOk, IsTrue, IsFalse, IfSome};
-ghost use Rattle.std.specs.Option.{ForSome};
-ghost use Rattle.dm_schema.specs.Schemas.{in_order, is_formed};
+ghost use Rattle.std.specs.Prelude.{◌≡◌, None, Err, IfOk, IfSome, IsTrue};
+ghost use Rattle.dm_schema.specs.Schemas.{in_order};
 ghost use Rattle.dm_target.specs.Asking.{is_proper};
 ghost use Rattle.dm_target.specs.Contents.{effect};
 ghost use Rattle.dm_target.specs.Memory.{content_of};
 ghost use Rattle.dm_target.specs.declared.call.Call.TheVariants.{Create, Alter, Apply, Metas};
 ghost use Rattle.dm_table.specs.declared.fault.TableFault.TheVariants as table_fault;
-ghost use Rattle.dm_journal.specs.Journaled.{IsTextFor, call_text, MatchAlteration};
+ghost use Rattle.dm_journal.specs.Journaled.{IsTextFor, call_text};
 
 use dm_join::alteration;
-use dm_schema::{Changes, Schema, TableName};
+use dm_schema::{Schema, TableName};
 use dm_stmt::{push_alter, push_metas, push_ops};
 use dm_stmt_read::{changes_types, columns_types, ops_types};
 use dm_table::RowOp;
@@ -67,10 +66,11 @@ pub(crate) fn ops_text(
 {
     ops_types(ops);
     let mut text = Vec::new(alloc);
-    if let Some(schema) = kept.schema(table) {
-        let _ = schema.columns();
-        push_ops(alloc, &mut text, table, schema, ops)?;
-    }
+    let Some(there) = kept.schema(table) else {
+        return Ok(text);
+    };
+    let _ = there.columns();
+    push_ops(alloc, &mut text, table, there, ops)?;
     Ok(text)
 }
 
@@ -90,11 +90,18 @@ pub(crate) fn alter_text(
     ensures refused { IfOk result (λ text. text ≡ None → effect (Alter table.now schema.now) (content_of kept.now) ≡ Err table_fault.PrimaryDiffers) }
 {
     let _ = asked.columns();
-    let Some(changes) = changes_to(alloc, kept, table, schema)? else {
-        return Ok(None);
-    };
-    changes_types(changes.as_slice());
     let mut text = Vec::new(alloc);
+    let Some(there) = kept.schema(table) else {
+        push_alter(alloc, &mut text, table, &[])?;
+        return Ok(Some(text));
+    };
+    if *there.primary() != *schema.primary() {
+        return Ok(None);
+    }
+    let _ = there.columns();
+    let _ = schema.columns();
+    let changes = alteration(alloc, there, schema)?;
+    changes_types(changes.as_slice());
     push_alter(alloc, &mut text, table, changes.as_slice())?;
     Ok(Some(text))
 }

@@ -2,6 +2,7 @@
 #![tactic(auto)]
 
 mod altering;
+mod call_texts;
 mod carrying;
 mod content;
 mod doubt;
@@ -10,6 +11,7 @@ mod content_tests;
 mod fault;
 mod framing;
 mod parts;
+mod pieces;
 #[cfg(test)]
 mod tests;
 
