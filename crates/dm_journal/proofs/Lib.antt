@@ -1,4 +1,5 @@
 pub mod AlterRecords
+pub mod Appending
 pub mod CallTexts
 pub mod FoldedKeys
 pub mod FramingLaws

@@ -5,3 +5,4 @@ pub mod Contents
 pub mod Framing
 pub mod Headers
 pub mod Journaled
+pub mod Parts

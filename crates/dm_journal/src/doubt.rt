@@ -7,5 +7,5 @@ pub struct Doubt {
     /// What was kept before the call, for contracts alone: it has no bytes.
     pub before: Log<MemoryTarget, ()>,
     /// How many bytes the journal has if the record is whole.
-    pub whole: u64,
+    pub whole: usize,
 }

@@ -18,4 +18,3 @@ mod tests;
 pub use content::{JournalContent, read_content};
 pub use fault::ContentFault;
 pub use framing::{Front, front_of};
-pub use parts::StatementTarget;
