@@ -1,5 +1,5 @@
 -- Rows under their keys, as a sorted list of entries and as a map.
-use Rattle.std.proofs.Common.{◌≡◌, Bool, true, false, cond, ◌&&◌, List, [], ◌∷◌, map, Some, None, refl, sym, ap, subst, ◌∙◌}
+use Rattle.std.proofs.Common.{◌≡◌, ◌↔◌, ◌<◌, length, arith, is_some, Option, Bool, true, false, cond, ◌&&◌, List, [], ◌∷◌, map, Some, None, refl, sym, ap, subst, ◌∙◌}
 use Rattle.std.specs.Prelude.{T}
 use Rattle.std.specs.declared.cmp.Ordering.{Ordering}
 use Rattle.std.specs.declared.cmp.Ordering.TheVariants.{Less, Equal, Greater}
@@ -8,22 +8,22 @@ use Rattle.std.specs.List.Sorted.{IsStrictlySortedBy}
 use Rattle.std.specs.List.{AllByRecursion}
 use Rattle.std.proofs.lemmas.Cmp.{eq_by_cmp_equiv}
 use Rattle.std.specs.BTreeMap.{BTreeMap, IsOrdered, UpdatesBy, get, is_at}
-use Rattle.std.specs.Option.{option_or}
+use Rattle.std.specs.Option.{option_or, IsSome, IfNone}
 use Rattle.std.proofs.lemmas.Bool.{false≢true, cond-false}
 use Rattle.std.specs.Map.{keys_of, lookup}
 use Rattle.std.specs.FinMap as fin
-use Rattle.std.specs.FinMap.{find, entries-from_sorted, get-from_sorted, get-from_entries, get-insert, get-remove, get-entries, entries_sorted, same_map}
+use Rattle.std.specs.FinMap.{FinMap, find, entries-from_sorted, get-from_sorted, get-from_entries, get-insert, get-remove, get-entries, entries_sorted, same_map}
 use Rattle.std.specs.FinMap.Entries.{is_sorted, below_all}
 use Rattle.dm_value.specs.Order.{row_cmp}
 use Rattle.dm_value.proofs.OrderLemmas.{row_total, row_exact}
 use Rattle.dm_table.specs.Contents.{Row, RowMap, same_row}
 
 -- a look-up in entries
-pub found_is_looked_up : (q : Row) (es : List (Row × Row)) → find row_cmp q es ≡ lookup (is_at (row_cmp q)) es
+pub found_is_looked_up : {X : Type 0} (q : Row) (es : List (Row × X)) → find row_cmp q es ≡ lookup (is_at (row_cmp q)) es
 found_is_looked_up q [] = refl
 found_is_looked_up q (e ∷ es) = ap (cond (same_row q e.0) (Some e.1)) (found_is_looked_up q es)
 
-pub get_keyed : (m : BTreeMap Row Row) (q : Row) → get row_cmp m q ≡ fin.get (fin.from_entries {R = row_cmp} m.entries) q
+pub get_keyed : {X : Type 0} (m : BTreeMap Row X) (q : Row) → get row_cmp m q ≡ fin.get (fin.from_entries {R = row_cmp} m.entries) q
 get_keyed m q = sym (found_is_looked_up q m.entries) ∙ sym (get-from_entries row_total m.entries q)
 
 both : (a b : Bool) → T a → T b → T (a && b)
@@ -31,29 +31,46 @@ both true b x y = y
 both false b x y = absurd x
 
 -- a strictly sorted list is one as the maps test it
-below : (k : Row) (es : List (Row × Row)) → AllByRecursion (λ q. row_cmp k q ≡ Less) (keys_of es) → T (below_all row_cmp k es)
+below : {X : Type 0} (k : Row) (es : List (Row × X)) → AllByRecursion (λ q. row_cmp k q ≡ Less) (keys_of es) → T (below_all row_cmp k es)
 below k [] h = tt
 below k (e ∷ es) h = both _ _ (subst (λ o. T (is_lt o)) (sym h.0) tt) (below k es h.1)
 
-in_order : (es : List (Row × Row)) → IsStrictlySortedBy row_cmp (keys_of es) → T (is_sorted row_cmp es)
+in_order : {X : Type 0} (es : List (Row × X)) → IsStrictlySortedBy row_cmp (keys_of es) → T (is_sorted row_cmp es)
 unfolding IsStrictlySortedBy
 in_order [] h = tt
 in_order (e ∷ es) h = both _ _ (below e.0 es h.0) (in_order es h.1)
 
 -- a map that is made of sorted entries has these entries
-pub entries_keyed : (m : BTreeMap Row Row) → IsOrdered row_cmp m → fin.entries (fin.from_entries {R = row_cmp} m.entries) ≡ m.entries
+pub entries_keyed : {X : Type 0} (m : BTreeMap Row X) → IsOrdered row_cmp m → fin.entries (fin.from_entries {R = row_cmp} m.entries) ≡ m.entries
 entries_keyed m h =
     let es = m.entries in
     ap fin.entries (same_map row_total row_exact (fin.from_entries es) (fin.from_sorted es) (λ q. get-from_entries row_total es q ∙ sym (get-from_sorted row_cmp es q (in_order es h))))
     ∙ entries-from_sorted row_cmp es (in_order es h)
 
-pub inserted : (m n : BTreeMap Row Row) (k v : Row) → UpdatesBy row_cmp (row_cmp k) m n (Some v) → fin.from_entries {R = row_cmp} n.entries ≡ fin.insert (fin.from_entries m.entries) k v
+pub inserted : {X : Type 0} (m n : BTreeMap Row X) (k : Row) (v : X) → UpdatesBy row_cmp (row_cmp k) m n (Some v) → fin.from_entries {R = row_cmp} n.entries ≡ fin.insert (fin.from_entries m.entries) k v
 inserted m n k v h = same_map row_total row_exact _ _ (λ q.
     sym (get_keyed n q) ∙ h.0 q ∙ ap (λ b. cond b (Some v) (get row_cmp m q)) ((eq_by_cmp_equiv row_total).symm k q) ∙ ap (cond (same_row q k) (Some v)) (get_keyed m q) ∙ sym (get-insert row_total (fin.from_entries m.entries) k v q))
 
 pub removed : (m n : BTreeMap Row Row) (k : Row) → UpdatesBy row_cmp (row_cmp k) m n None → fin.from_entries {R = row_cmp} n.entries ≡ fin.remove (fin.from_entries m.entries) k
 removed m n k h = same_map row_total row_exact _ _ (λ q.
     sym (get_keyed n q) ∙ h.0 q ∙ ap (λ b. cond b None (get row_cmp m q)) ((eq_by_cmp_equiv row_total).symm k q) ∙ ap (cond (same_row q k) None) (get_keyed m q) ∙ sym (get-remove row_total (fin.from_entries m.entries) k q))
+
+-- a key with a row isn't new
+pub not_new : (m : BTreeMap Row Row) (rows : RowMap) (k : Row) → fin.from_entries {R = row_cmp} m.entries ≡ rows → is_some (fin.get rows k) ≡ true → get row_cmp m k ≡ None → ⊥
+not_new m rows k seen there absent = false≢true (ap is_some (sym absent ∙ get_keyed m k ∙ ap (λ (n : RowMap). fin.get n k) seen) ∙ there)
+
+-- the first entry is taken away, where there is one
+pub taken_first : {X : Type 0} (m n : BTreeMap Row X) (rows : FinMap row_cmp X) (e : Row × X) → IsOrdered row_cmp m → IsOrdered row_cmp n → fin.from_entries {R = row_cmp} m.entries ≡ rows → m.entries ≡ e ∷ n.entries
+    → fin.entries rows ≡ e ∷ fin.entries (fin.from_entries {R = row_cmp} n.entries)
+taken_first m n rows e before after seen taken = ap fin.entries (sym seen) ∙ entries_keyed m before ∙ taken ∙ ap (λ es. e ∷ es) (sym (entries_keyed n after))
+
+nothing : {A : Type 0} (es : List A) → (0 < length es → ⊥) → es ≡ []
+nothing [] h = refl
+nothing (e ∷ es) h = absurd (h (omega arith))
+
+pub none_taken : {X : Type 0} (r : Option (Row × X)) (m : BTreeMap Row X) (rows : FinMap row_cmp X) → IsOrdered row_cmp m → fin.from_entries {R = row_cmp} m.entries ≡ rows → (IsSome r ↔ (0 < length m.entries)) → IfNone r (fin.entries rows ≡ [])
+none_taken (Some e) m rows before seen h = tt
+none_taken None m rows before seen h = ap fin.entries (sym seen) ∙ entries_keyed m before ∙ nothing m.entries (λ more. false≢true (h.1 more))
 
 -- entries over those of a map
 abbrev pub over : RowMap → List (Row × Row) → RowMap
@@ -102,7 +119,7 @@ other_if_less Equal f = absurd f
 other_if_less Greater f = absurd f
 
 -- the first of sorted entries is not among the others
-pub apart : (k : Row) (es : List (Row × Row)) → T (below_all row_cmp k es) → find row_cmp k es ≡ None
+pub apart : {X : Type 0} (k : Row) (es : List (Row × X)) → T (below_all row_cmp k es) → find row_cmp k es ≡ None
 apart k [] h = refl
 apart k (e ∷ es) h = cond-false (same_row k e.0) (Some e.1) (find row_cmp k es) (other_if_less (row_cmp k e.0) (first _ _ h)) ∙ apart k es (second _ _ h)
 

@@ -26,11 +26,11 @@ pub one_taken : (layout : Layout) (ops : List RowOp) (i : ℕ) (o : RowOp) (m n 
 one_taken layout ops i o m n total within here taken h = sym (first_taken layout o (drop (i + 1) ops) m n taken) ∙ sym (split layout ops i o m within here) ∙ h
 
 pub one_refused : (layout : Layout) (ops : List RowOp) (i : ℕ) (o : RowOp) (m : RowMap) (f : TableFault) (total : Result RowMap TableFault) → i < length ops → o ≡ get_or ops i o
-    → MatchBool (is_memory f) ⊤ (applied layout o m ≡ Err f) → all_applied layout (drop i ops) m ≡ total → MatchBool (is_memory f) ⊤ (Err f ≡ total)
+    → MatchBool (is_memory f) ⊤ (applied layout o m ≡ Err f) → all_applied layout (drop i ops) m ≡ total → MatchBool (is_memory f) ⊤ (total ≡ Err f)
 one_refused layout ops i o m f total within here refused h = by (is_memory f) refused where
-  by : (b : Bool) → MatchBool b ⊤ (applied layout o m ≡ Err f) → MatchBool b ⊤ (Err f ≡ total)
+  by : (b : Bool) → MatchBool b ⊤ (applied layout o m ≡ Err f) → MatchBool b ⊤ (total ≡ Err f)
   by true r = tt
-  by false r = sym (first_refused layout o (drop (i + 1) ops) m f r) ∙ sym (split layout ops i o m within here) ∙ h
+  by false r = sym h ∙ split layout ops i o m within here ∙ first_refused layout o (drop (i + 1) ops) m f r
 
 -- Operations, and more behind them.
 
@@ -66,6 +66,6 @@ table_elsewhere old now ops is o key one apart =
     untouched old.layout o old.rows now.rows
     (only_one old.layout o old.rows now.rows (ap (λ (os : List RowOp). all_applied old.layout os old.rows) (sym one) ∙ (rows_of old.layout (all_applied old.layout ops old.rows) now is).0)) key apart
 
-pub applied_by_rows : (layout : Layout) (rows made : RowMap) (ops : List RowOp) (table : TableContent) → Ok made ≡ all_applied layout ops rows → record { layout = layout; rows = rows } ≡ table
-    → table_applied table ops ≡ Ok (record { layout = layout; rows = made })
-applied_by_rows layout rows made ops table is seen = ap (λ (t : TableContent). table_applied t ops) (sym seen) ∙ ap (with_rows layout) (sym is)
+pub applied_by_rows : (layout : Layout) (rows now made : RowMap) (ops : List RowOp) (table : TableContent) → all_applied layout ops rows ≡ Ok made → now ≡ made → record { layout = layout; rows = rows } ≡ table
+    → table_applied table ops ≡ Ok (record { layout = layout; rows = now })
+applied_by_rows layout rows now made ops table is same seen = ap (λ (t : TableContent). table_applied t ops) (sym seen) ∙ ap (with_rows layout) is ∙ ap (λ (m : RowMap). let r : Result TableContent TableFault = Ok (record { layout = layout; rows = m }) in r) (sym same)

@@ -13,3 +13,7 @@ pub mod Followed
 pub mod KeptRows
 pub mod KeptAltered
 pub mod SeenAgain
+pub mod Lookups
+pub mod Behind
+pub mod Room
+pub mod Cleared

@@ -7,3 +7,4 @@ pub mod Meeting
 pub mod Following
 pub mod Seeing
 pub mod Shapes
+pub mod Staging

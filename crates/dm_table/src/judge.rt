@@ -1,4 +1,4 @@
-ghost use Rattle.std.specs.Prelude.{◌≡◌, IsTrue, OnOk};
+ghost use Rattle.std.specs.Prelude.{◌≡◌, ◌&&◌, IsTrue, OnOk};
 ghost use Rattle.std.specs.Option.{option_copied};
 ghost use Rattle.std.specs.List.{list_all};
 ghost use Rattle.dm_list.specs.Answer.{first_refusal, unless_refused, Answers};
@@ -6,13 +6,16 @@ ghost use Rattle.dm_schema.specs.Kinds.{is_column, is_kind};
 ghost use Rattle.dm_schema.specs.Schemas.{is_formed};
 ghost use Rattle.dm_schema.specs.NameOrder.{columns_in_order, uniques_in_order};
 ghost use Rattle.dm_table.specs.Operations.{refusals, names_in_order, columns_of, is_unfit, lacks_value, key_value, is_other, old_row, is_unique_taken};
+ghost use Rattle.dm_table.specs.Contents.{agree_in};
+ghost use Rattle.dm_table.specs.Staging.{rows_behind, some_changed, some_unchanged};
 ghost use Rattle.dm_table.specs.Judging.{is_memory, unknown_refusals, unfit_refusals, missing_refusals, primary_refusals, unique_refusals};
 
 use crate::cells::{is_unfit_value, named_value};
-use crate::keyed::KeyedRows;
+use crate::changes::Changes;
 use crate::left::{given, left_row};
 use crate::said::{SaidName, said_in_order};
 use crate::sharing::{agree_in, duplicate};
+use crate::staged::Staged;
 use crate::{RowOp, TableFault};
 use dm_list::Copied;
 use dm_schema::{
@@ -22,8 +25,8 @@ use dm_value::{Name, Row, Value};
 use std::alloc::Global;
 
 /// Whether an operation may be taken: the first of its refusals, in their order.
-pub fn judge(alloc: Global, schema: &Schema, op: &RowOp, rows: &KeyedRows) -> Result<(), TableFault>
-    ensures judged { Answers is_memory result (unless_refused (first_refusal (refusals schema.now op.now rows.now)) tt) }
+pub fn judge(alloc: Global, schema: &Schema, op: &RowOp, rows: &Staged) -> Result<(), TableFault>
+    ensures judged { Answers is_memory result (unless_refused (first_refusal (refusals schema.now op.now (rows_behind rows.now))) tt) }
     ensures formed { OnOk result (IsTrue (is_formed schema.now)) }
 {
     refuse_unknown(alloc, schema, op)?;
@@ -120,8 +123,8 @@ fn key_value<'a>(schema: &Schema, op: &'a RowOp, column: &Column) -> Option<&'a 
 }
 
 /// Refuses an operation whose row isn't there.
-fn refuse_missing(op: &RowOp, rows: &KeyedRows) -> Result<(), TableFault>
-    ensures { Answers is_memory result (unless_refused (first_refusal (missing_refusals op.now rows.now)) tt) }
+fn refuse_missing(op: &RowOp, rows: &Staged) -> Result<(), TableFault>
+    ensures { Answers is_memory result (unless_refused (first_refusal (missing_refusals op.now (rows_behind rows.now))) tt) }
 {
     if op.needs_row() && old_row(op, rows).is_none() {
         return Err(TableFault::Missing);
@@ -130,8 +133,8 @@ fn refuse_missing(op: &RowOp, rows: &KeyedRows) -> Result<(), TableFault>
 }
 
 /// The row of the key that an operation asks for.
-fn old_row<'a>(op: &RowOp, rows: &'a KeyedRows) -> Option<&'a Row>
-    ensures { option_copied result ≡ old_row op.now rows.now }
+fn old_row<'a>(op: &RowOp, rows: &'a Staged) -> Option<&'a Row>
+    ensures { option_copied result ≡ old_row op.now (rows_behind rows.now) }
 {
     match op.asked_key() {
         Some(key) => rows.get(key),
@@ -144,10 +147,10 @@ fn refuse_primary(
     alloc: Global,
     schema: &Schema,
     op: &RowOp,
-    rows: &KeyedRows,
+    rows: &Staged,
     row: &Row,
 ) -> Result<(), TableFault>
-    ensures { Answers is_memory result (unless_refused (first_refusal (primary_refusals schema.now op.now rows.now row.now)) tt) }
+    ensures { Answers is_memory result (unless_refused (first_refusal (primary_refusals schema.now op.now (rows_behind rows.now) row.now)) tt) }
 {
     let key = key_of(alloc, schema, row)?;
     if op.needs_room() && rows.get(&key).is_some() && is_other(op, &key) {
@@ -171,10 +174,10 @@ fn refuse_uniques(
     alloc: Global,
     schema: &Schema,
     op: &RowOp,
-    rows: &KeyedRows,
+    rows: &Staged,
     row: &Row,
 ) -> Result<(), TableFault>
-    ensures { Answers is_memory result (unless_refused (first_refusal (unique_refusals schema.now op.now rows.now row.now (uniques_in_order schema.now.uniques))) tt) }
+    ensures { Answers is_memory result (unless_refused (first_refusal (unique_refusals schema.now op.now (rows_behind rows.now) row.now (uniques_in_order schema.now.uniques))) tt) }
 {
     let keys = in_name_order(alloc, schema.uniques())?;
     refuse_uniques_among(schema, op, rows, row, &keys)
@@ -183,11 +186,11 @@ fn refuse_uniques(
 fn refuse_uniques_among(
     schema: &Schema,
     op: &RowOp,
-    rows: &KeyedRows,
+    rows: &Staged,
     row: &Row,
     keys: &[UniqueKey],
 ) -> Result<(), TableFault>
-    ensures { Answers is_memory result (unless_refused (first_refusal (unique_refusals schema.now op.now rows.now row.now keys.now)) tt) }
+    ensures { Answers is_memory result (unless_refused (first_refusal (unique_refusals schema.now op.now (rows_behind rows.now) row.now keys.now)) tt) }
 {
     match keys {
         [] => Ok(()),
@@ -201,18 +204,48 @@ fn refuse_uniques_among(
 }
 
 /// Whether another row agrees with this one in a unique key.
-fn is_unique_taken(
-    schema: &Schema,
+fn is_unique_taken(schema: &Schema, op: &RowOp, rows: &Staged, row: &Row, key: &UniqueKey) -> bool
+    ensures { result ≡ is_unique_taken schema.now op.now (rows_behind rows.now) row.now key.now }
+{
+    let columns = schema.columns();
+    is_taken_where_changed(columns, op, rows.changes(), row, key)
+        || is_taken_where_unchanged(columns, op, rows, row, key)
+}
+
+/// Whether such a row is among those that operations have left.
+fn is_taken_where_changed(
+    columns: &[Column],
     op: &RowOp,
-    rows: &KeyedRows,
+    changes: &Changes,
     row: &Row,
     key: &UniqueKey,
 ) -> bool
-    ensures { result ≡ is_unique_taken schema.now op.now rows.now row.now key.now }
+    ensures { result ≡ some_changed (λ e. is_other op.now e.0 && agree_in key.now columns.now row.now e.1) changes.now }
 {
-    let columns = schema.columns();
-    for (place, other) in rows.in_order() {
-        if is_other(op, place) && agree_in(key, columns, row, other) {
+    for (place, change) in changes.in_order() {
+        if let Some(other) = change {
+            if is_other(op, place) && agree_in(key, columns, row, other) {
+                return true;
+            }
+        }
+    }
+    false
+}
+
+/// Whether such a row is among those that operations haven't touched.
+fn is_taken_where_unchanged(
+    columns: &[Column],
+    op: &RowOp,
+    rows: &Staged,
+    row: &Row,
+    key: &UniqueKey,
+) -> bool
+    ensures { result ≡ some_unchanged (λ e. is_other op.now e.0 && agree_in key.now columns.now row.now e.1) rows.now }
+{
+    let changes = rows.changes();
+    for (place, other) in rows.base().in_order() {
+        if changes.get(place).is_none() && is_other(op, place) && agree_in(key, columns, row, other)
+        {
             return true;
         }
     }

@@ -1,12 +1,8 @@
-ghost use Rattle.std.specs.Prelude.{◌≡◌, ◌||◌, not, OnOk};
-ghost use Rattle.std.specs.List.{filter};
+ghost use Rattle.std.specs.Prelude.{◌≡◌, true, is_some, OnOk, OnErr};
 ghost use Rattle.std.specs.Option.{option_copied};
 ghost use Rattle.std.specs.FinMap as fin;
-ghost use Rattle.dm_table.specs.Contents.{same_row, share_unique};
 
-use crate::sharing::share_unique;
 use dm_list::Copied;
-use dm_schema::Schema;
 use dm_value::Row;
 use std::alloc::{AllocError, Global};
 use std::collections::BTreeMap;
@@ -63,24 +59,28 @@ impl KeyedRows {
 
     /// Puts a row under a key, in the place of the one that is there.
     pub fn insert(&mut self, key: Row, row: Row) -> Result<(), AllocError>
-        ensures { OnOk result (self.new ≡ fin.insert self.old key row) }
+        ensures put { OnOk result (self.new ≡ fin.insert self.old key row) }
+        ensures kept { OnErr result (self.new ≡ self.old) }
     {
         self.rows.insert(key, row)?;
         Ok(())
+    }
+
+    /// Puts a row in the place of the one that is there, which takes no memory.
+    pub fn replace(&mut self, key: Row, row: Row)
+        requires { is_some (fin.get self.old key) ≡ true }
+        ensures { self.new ≡ fin.insert self.old key row }
+    {
+        match self.rows.insert(key, row) {
+            Ok(_) => (),
+            Err(_) => unreachable!(),
+        }
     }
 
     pub fn remove(&mut self, key: &Row)
         ensures { self.new ≡ fin.remove self.old key.now }
     {
         self.rows.remove(key);
-    }
-
-    /// Removes the row of a key, and those that agree with a row in a unique key.
-    pub fn remove_sharing(&mut self, schema: &Schema, key: &Row, row: &Row)
-        ensures { self.new ≡ fin.from_entries (filter (λ e. not (same_row key.now e.0 || share_unique schema.now row.now e.1)) (fin.entries self.old)) }
-    {
-        self.rows.retain(|other, value| !(key.cmp(other).is_eq()
-            || share_unique(schema, row, value)));
     }
 }
 

@@ -4,12 +4,13 @@ ghost use Rattle.dm_value.specs.declared.value.Value.TheVariants as value;
 ghost use Rattle.dm_schema.specs.Fill.{fill_for_missing};
 ghost use Rattle.dm_schema.specs.Rows.{cell};
 ghost use Rattle.dm_table.specs.Operations.{given, kept_value, left_value, left_row};
+ghost use Rattle.dm_table.specs.Staging.{rows_behind};
 ghost use Rattle.std.specs.FinMap as fin;
 ghost use Rattle.std.specs.Prelude.{option_and_then};
 
 use crate::RowOp;
 use crate::cells::{cell, named_value, value_or_null};
-use crate::keyed::KeyedRows;
+use crate::staged::Staged;
 use dm_list::Copied;
 use dm_schema::{Column, Schema, fill_for_missing};
 use dm_value::{Row, Value};
@@ -20,9 +21,9 @@ pub fn left_row(
     alloc: Global,
     schema: &Schema,
     op: &RowOp,
-    rows: &KeyedRows,
+    rows: &Staged,
 ) -> Result<Row, AllocError>
-    ensures { IfOk result (λ row. row ≡ left_row schema.now op.now rows.now) }
+    ensures { IfOk result (λ row. row ≡ left_row schema.now op.now (rows_behind rows.now)) }
 {
     let columns = schema.columns();
     let mut values = Vec::with_capacity(alloc, columns.len())?;
@@ -44,10 +45,10 @@ fn left_value(
     alloc: Global,
     columns: &[Column],
     op: &RowOp,
-    rows: &KeyedRows,
+    rows: &Staged,
     column: &Column,
 ) -> Result<Value, AllocError>
-    ensures { IfOk result (λ found. found ≡ left_value columns.now op.now rows.now column.now) }
+    ensures { IfOk result (λ found. found ≡ left_value columns.now op.now (rows_behind rows.now) column.now) }
 {
     match given(op, column) {
         Some(value) => value.copy(alloc),
@@ -60,10 +61,10 @@ fn kept_value(
     alloc: Global,
     columns: &[Column],
     op: &RowOp,
-    rows: &KeyedRows,
+    rows: &Staged,
     column: &Column,
 ) -> Result<Value, AllocError>
-    ensures { IfOk result (λ found. found ≡ unwrap_or (kept_value columns.now op.now rows.now column.now) value.Null) }
+    ensures { IfOk result (λ found. found ≡ unwrap_or (kept_value columns.now op.now (rows_behind rows.now) column.now) value.Null) }
 {
     match op.asked_key() {
         Some(key) => old_value(alloc, columns, rows, key, column),
@@ -75,11 +76,11 @@ fn kept_value(
 fn old_value(
     alloc: Global,
     columns: &[Column],
-    rows: &KeyedRows,
+    rows: &Staged,
     key: &Row,
     column: &Column,
 ) -> Result<Value, AllocError>
-    ensures { IfOk result (λ found. found ≡ unwrap_or (option_and_then (λ row. cell columns.now row column.now.name) (fin.get rows.now key.now)) value.Null) }
+    ensures { IfOk result (λ found. found ≡ unwrap_or (option_and_then (λ row. cell columns.now row column.now.name) (fin.get (rows_behind rows.now) key.now)) value.Null) }
 {
     match rows.get(key) {
         Some(row) => value_or_null(alloc, cell(columns, row.as_slice(), &column.name)),

@@ -3,7 +3,10 @@
 
 mod altering;
 mod applying;
+mod carrying;
 mod cells;
+mod changes;
+mod clearing;
 mod effect;
 mod fault;
 mod judge;
@@ -13,6 +16,7 @@ mod op;
 mod said;
 mod shapes;
 mod sharing;
+mod staged;
 mod table;
 #[cfg(test)]
 mod tests;

@@ -12,6 +12,7 @@ ghost use Rattle.dm_table.specs.Judging.{is_memory};
 
 use crate::altering::altered_rows;
 use crate::applying::all_applied;
+use crate::carrying::carry_over;
 use crate::keyed::KeyedRows;
 use crate::{RowOp, TableFault};
 use dm_list::Copied;
@@ -98,8 +99,8 @@ impl Table {
     }
 
     /// Changes the rows by operations in turn: by all of them, or, where one is refused or memory is wanting, by none.
-    /// Since all rows are copied first, a call costs the table's size; each operation that leaves a row goes over all
-    /// rows once more for each unique key.
+    /// The changes are noted beside the rows until all operations are taken, so an operation costs the logarithm of the
+    /// rows; one that leaves a row goes over all rows for each unique key besides.
     pub fn apply(&mut self, alloc: Global, ops: &[RowOp]) -> Result<(), TableFault>
         ensures applied { IfOk result (λ _. table_applied self.old ops.now ≡ Ok self.new) }
         ensures refused { IfErr result (λ f. MatchBool (is_memory f) ⊤ (table_applied self.old ops.now ≡ Err f)) }
@@ -107,8 +108,8 @@ impl Table {
         ensures elsewhere { (o : RowOp) (key : List Value) → ops.now ≡ o ∷ [] → meets self.old.layout o self.old.rows key ≡ false → OnOk result (fin.get self.new.rows key ≡ fin.get self.old.rows key) }
         ensures in_turn { (more : List RowOp) → OnOk result (table_applied self.old (ops.now ++ more) ≡ table_applied self.new more) }
     {
-        let rows = all_applied(alloc, &self.schema, &self.rows, ops)?;
-        self.rows = rows;
+        let changes = all_applied(alloc, &self.schema, &self.rows, ops)?;
+        carry_over(alloc, &mut self.rows, changes)?;
         Ok(())
     }
 

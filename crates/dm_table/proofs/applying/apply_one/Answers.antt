@@ -1,6 +1,7 @@
+use Rattle.dm_table.specs.Staging.{rows_behind}
 use Rattle.dm_table.proofs.KeptRows.{effect_keeps}
 use Rattle.dm_table.proofs.applying.apply_one.Goals as goal
 
 pub returns-clause-rows : goal.returns-clause-rows
 returns-clause-rows c =
-    effect_keeps c.args.schema.now c.args.op.now c.args.rows.now c.take_effect.new.rows c.in_ok-judge.field-0 c.in_ok-judge.ensures.formed c.in_ok-judge.ensures.judged c.in_ok-take_effect.ensures
+    effect_keeps c.args.schema.now c.args.op.now (rows_behind c.args.rows.now) (rows_behind c.take_effect.new.rows) c.in_ok-judge.field-0 c.in_ok-judge.ensures.formed c.in_ok-judge.ensures.judged c.in_ok-take_effect.ensures.behind
