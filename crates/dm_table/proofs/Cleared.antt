@@ -6,7 +6,6 @@ use Rattle.std.specs.List.{list_any, filter}
 use Rattle.std.specs.FinMap as fin
 use Rattle.std.specs.FinMap.{get-remove, same_map}
 use Rattle.std.proofs.lemmas.List.Folds.{list_any-append}
-use Rattle.dm_value.specs.Order.{row_cmp}
 use Rattle.dm_value.proofs.OrderLemmas.{row_total, row_exact}
 use Rattle.dm_schema.specs.Layout.{Layout}
 use Rattle.dm_table.specs.Contents.{Row, RowMap, same_row, share_unique}

@@ -64,10 +64,12 @@ pub taken_first : {X : Type 0} (m n : BTreeMap Row X) (rows : FinMap row_cmp X) 
     → fin.entries rows ≡ e ∷ fin.entries (fin.from_entries {R = row_cmp} n.entries)
 taken_first m n rows e before after seen taken = ap fin.entries (sym seen) ∙ entries_keyed m before ∙ taken ∙ ap (λ es. e ∷ es) (sym (entries_keyed n after))
 
+-- a list that isn't longer than none
 nothing : {A : Type 0} (es : List A) → (0 < length es → ⊥) → es ≡ []
 nothing [] h = refl
 nothing (e ∷ es) h = absurd (h (omega arith))
 
+-- where no entry is taken there was none
 pub none_taken : {X : Type 0} (r : Option (Row × X)) (m : BTreeMap Row X) (rows : FinMap row_cmp X) → IsOrdered row_cmp m → fin.from_entries {R = row_cmp} m.entries ≡ rows → (IsSome r ↔ (0 < length m.entries)) → IfNone r (fin.entries rows ≡ [])
 none_taken (Some e) m rows before seen h = tt
 none_taken None m rows before seen h = ap fin.entries (sym seen) ∙ entries_keyed m before ∙ nothing m.entries (λ more. false≢true (h.1 more))

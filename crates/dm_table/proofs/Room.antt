@@ -6,7 +6,7 @@ use Rattle.std.specs.List.{list_any}
 use Rattle.std.specs.FinMap as fin
 use Rattle.std.specs.FinMap.{find, get-entries, get-insert, get-remove, entries_sorted, same_map}
 use Rattle.std.specs.FinMap.Entries.{is_sorted}
-use Rattle.std.proofs.lemmas.Bool.{false≢true, or_right, or_parts, cond-false}
+use Rattle.std.proofs.lemmas.Bool.{false≢true, or_right}
 use Rattle.std.proofs.lemmas.List.{at_drop_more}
 use Rattle.dm_value.specs.Order.{row_cmp}
 use Rattle.dm_value.proofs.OrderLemmas.{row_total, row_exact}
@@ -19,15 +19,18 @@ use Rattle.dm_table.proofs.Behind.{get-changed, get-carried}
 
 -- Removing.
 
+-- one more is removed, of a list by place
 pub removed_one : (keys : List Row) (i : ℕ) (k : Row) (m n total : RowMap) → i < length keys → k ≡ get_or keys i k → n ≡ fin.remove m k → removed_all (drop i keys) m ≡ total → removed_all (drop (i + 1) keys) n ≡ total
 removed_one keys i k m n total within here removed h =
     ap (removed_all (drop (i + 1) keys)) removed ∙ sym (at_drop_more (λ ks. removed_all ks m) keys i k within ∙ ap (λ (q : Row). removed_all (q ∷ drop (i + 1) keys) m) (sym here)) ∙ h
 
+-- a row that is removed at the first key or at the others
 twice_removed : (a b : Bool) (o : Option Row) → cond b None (cond a None o) ≡ cond (a || b) None o
 twice_removed true true o = refl
 twice_removed true false o = refl
 twice_removed false b o = refl
 
+-- what stands behind removing the rows of keys
 pub get-removed_all : (keys : List Row) (m : RowMap) (q : Row) → fin.get (removed_all keys m) q ≡ cond (list_any (same_row q) keys) None (fin.get m q)
 get-removed_all [] m q = refl
 get-removed_all (k ∷ keys) m q =
@@ -41,10 +44,8 @@ pub record Filling (keys left : List Row) (old now : RowMap) : Type 0 where
   pub elsewhere : (q : Row) → list_any (same_row q) keys ≡ false → fin.get now q ≡ fin.get old q
   pub there : (q : Row) → list_any (same_row q) keys ≡ true → list_any (same_row q) left ≡ false → is_some (fin.get now q) ≡ true
 
-pub filling_begin : (keys : List Row) (old : RowMap) → Filling keys keys old old
-filling_begin keys old = record { among = λ q h. h; elsewhere = λ q h. refl; there = λ q h none. absurd (false≢true (sym none ∙ h)) }
-
-pub filling_one : (keys left before : List Row) (k row : Row) (old now new : RowMap) → before ≡ k ∷ left → new ≡ fin.insert now k row → Filling keys before old now → Filling keys left old new
+-- one more is put, of a list
+filling_one : (keys left before : List Row) (k row : Row) (old now new : RowMap) → before ≡ k ∷ left → new ≡ fin.insert now k row → Filling keys before old now → Filling keys left old new
 filling_one keys left before k row old now new is put h = record {
   among = λ q any. h.among q (ap (list_any (same_row q)) is ∙ or_right (same_row q k) (list_any (same_row q) left) any);
   elsewhere = λ q none. at q ∙ away q (same_row q k) refl none ∙ h.elsewhere q none;
@@ -62,6 +63,7 @@ filling_one keys left before k row old now new is put h = record {
   stands q false other any none =
       ap (λ b. is_some (cond b (Some row) (fin.get now q))) other ∙ h.there q any (ap (list_any (same_row q)) is ∙ ap (λ b. b || list_any (same_row q) left) other ∙ none)
 
+-- one more is put, of a list by place
 pub filling_next : (keys : List Row) (i : ℕ) (k key row : Row) (old now new : RowMap) → i < length keys → k ≡ get_or keys i k → key ≡ k → new ≡ fin.insert now key row → Filling keys (drop i keys) old now → Filling keys (drop (i + 1) keys) old new
 filling_next keys i k key row old now new within here same put =
     filling_one keys (drop (i + 1) keys) (drop i keys) k row old now new (at_drop_more (λ ks. ks) keys i k within ∙ ap (λ (q : Row). q ∷ drop (i + 1) keys) (sym here)) (put ∙ ap (λ (q : Row). fin.insert now q row) same)
@@ -76,11 +78,13 @@ taken_back keys old now new absent elsewhere removed = removed ∙ same_map row_
 
 -- One change after another.
 
+-- there is room for the first change
 pub room_at_first : (changes rest : ChangeMap) (rows : RowMap) (k : Row) (change : Option Row) → fin.entries changes ≡ (k, change) ∷ fin.entries rest → HasRoom changes rows → is_some change ≡ true → is_some (fin.get rows k) ≡ true
 room_at_first changes rest rows k None is room some = absurd (false≢true some)
 room_at_first changes rest rows k (Some row) is room some =
     room k row (get-entries changes k ∙ ap (find row_cmp k) is ∙ ap (λ b. cond b (Some (Some row)) (find row_cmp k (fin.entries rest))) (same_itself k))
 
+-- behind the first change there is room for the others
 pub room_stays : (changes rest : ChangeMap) (rows now : RowMap) (k : Row) (change : Option Row) → fin.entries changes ≡ (k, change) ∷ fin.entries rest → now ≡ changed rows k change → HasRoom changes rows → HasRoom rest now
 room_stays changes rest rows now k change is put room q row left = by (same_row q k) refl where
   by : (b : Bool) → same_row q k ≡ b → is_some (fin.get now q) ≡ true
@@ -96,9 +100,11 @@ room_stays changes rest rows now k change is put room q row left = by (same_row 
 -- Rows with room for the changes.
 
 module _ (changes : ChangeMap) (old : RowMap) (keys : List Row) (are : keys ≡ fresh_keys old (fin.entries changes)) where
+  -- which keys are new
   is_fresh : (q : Row) → list_any (same_row q) keys ≡ option_map_or (λ change. is_some change && is_none (fin.get old q)) (fin.get changes q) false
   is_fresh q = ap (list_any (same_row q)) are ∙ key_among (λ e. is_some e.1 && is_none (fin.get old e.0)) changes q
 
+  -- a new key has no row
   pub fresh_is_absent : (q : Row) → list_any (same_row q) keys ≡ true → fin.get old q ≡ None
   fresh_is_absent q any = by (fin.get changes q) (fin.get old q) refl (sym (is_fresh q) ∙ any) where
     by : (o : Option (Option Row)) (there : Option Row) → fin.get old q ≡ there → option_map_or (λ change. is_some change && is_none (fin.get old q)) o false ≡ true → fin.get old q ≡ None
@@ -107,6 +113,7 @@ module _ (changes : ChangeMap) (old : RowMap) (keys : List Row) (are : keys ≡ 
     by (Some (Some row)) None is h = is
     by (Some (Some row)) (Some other) is h = absurd (false≢true (sym (ap is_none is) ∙ h))
 
+  -- where rows were put under the new keys there is room for all changes
   pub filled_has_room : (now : RowMap) → IsFilled keys old now → HasRoom changes now
   filled_has_room now filled q row left = by (fin.get old q) refl where
     fresh : list_any (same_row q) keys ≡ is_none (fin.get old q)
@@ -116,6 +123,7 @@ module _ (changes : ChangeMap) (old : RowMap) (keys : List Row) (are : keys ≡ 
     by None is = filled.there q (fresh ∙ ap is_none is)
     by (Some other) is = ap is_some (filled.elsewhere q (fresh ∙ ap is_none is) ∙ is)
 
+  -- the rows that were put don't count behind the changes
   pub carried_same : (now : RowMap) → IsFilled keys old now → carried (fin.entries changes) now ≡ carried (fin.entries changes) old
   carried_same now filled = same_map row_total row_exact (carried (fin.entries changes) now) (carried (fin.entries changes) old)
       (λ q. get-carried changes now q ∙ by q (fin.get changes q) refl ∙ sym (get-carried changes old q)) where

@@ -24,11 +24,7 @@ pub fn carry_over(alloc: Global, rows: &mut KeyedRows, changes: Changes) -> Resu
 }
 
 /// Copies of the keys at which a row was left and none stood.
-fn fresh_keys(
-    alloc: Global,
-    rows: &KeyedRows,
-    changes: &Changes,
-) -> Result<Vec<Row>, AllocError>
+fn fresh_keys(alloc: Global, rows: &KeyedRows, changes: &Changes) -> Result<Vec<Row>, AllocError>
     ensures { IfOk result (λ keys. keys.items ≡ fresh_keys rows.now (fin.entries changes.now)) }
 {
     let mut keys = Vec::new(alloc);

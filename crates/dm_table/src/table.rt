@@ -100,7 +100,7 @@ impl Table {
 
     /// Changes the rows by operations in turn: by all of them, or, where one is refused or memory is wanting, by none.
     /// The changes are noted beside the rows until all operations are taken, so an operation costs the logarithm of the
-    /// rows; one that leaves a row goes over all rows for each unique key besides.
+    /// rows; where there are unique keys, one that leaves a row goes over all rows besides, for each of them.
     pub fn apply(&mut self, alloc: Global, ops: &[RowOp]) -> Result<(), TableFault>
         ensures applied { IfOk result (λ _. table_applied self.old ops.now ≡ Ok self.new) }
         ensures refused { IfErr result (λ f. MatchBool (is_memory f) ⊤ (table_applied self.old ops.now ≡ Err f)) }
