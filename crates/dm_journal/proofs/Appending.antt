@@ -104,7 +104,7 @@ module _ (full : Call → Bool) (done : Call) (text : List ℕ) (bytes now : Opt
   -- behind an append that failed the call took its effect whole, or none
   in_doubt : (b : Bool) → Takes done (content_of was) (Some (content_of after)) → AddsCall done (calls_of was) (Some (calls_of after))
       → ((Some (content_of (chosen b before after)) ≡ Some (content_of was)) × (Some (calls_of (chosen b before after)) ≡ Some (calls_of was)))
-          ⊎ (Takes done (content_of was) (Some (content_of (chosen b before after))) × AddsCall done (calls_of was) (Some (calls_of (chosen b before after))))
+      ⊎ (Takes done (content_of was) (Some (content_of (chosen b before after))) × AddsCall done (calls_of was) (Some (calls_of (chosen b before after))))
   in_doubt true took added_so = inr (took, added_so)
   in_doubt false took added_so = inl (ap (λ (t : MemoryTarget). Some (content_of t)) (sym was_before), ap (λ (t : MemoryTarget). Some (calls_of t)) (sym was_before))
 
@@ -194,8 +194,7 @@ module _ (done : Call) (text : List ℕ) (before after : MemoryTarget) (does : I
     holds_whole : length (told ++ part) ≡ size + length (framed text) → IsHeldIn (told ++ part) after
     holds_whole long =
         let no_more : length missing ≡ 0 = omega (arith, long, length-append told part, says.1, long_parts) in
-        let all : framed text ≡ part = parts ∙ ap (λ (rest : List ℕ). part ++ rest) (none_left missing no_more) ∙ append-nil part in
-        (
+        let all : framed text ≡ part = parts ∙ ap (λ (rest : List ℕ). part ++ rest) (none_left missing no_more) ∙ append-nil part in (
           length (told ++ part),
           record {
             whole = told ++ part;
@@ -265,3 +264,16 @@ appended_journaled done text bytes now before after size now_size doubt now_doub
     doubted_journaled done text before after does writes grows bytes now size now_size doubt now_doubt log none few appended.0 appended.1 noted appended.2
 appended_journaled done text bytes now before after size now_size doubt now_doubt log (Err error.Full) none few does noted writes grows appended = absurd appended
 appended_journaled done text bytes now before after size now_size doubt now_doubt log (Err error.Memory) none few does noted writes grows appended = absurd appended
+
+-- what is said of a call that is written, of another that is the same
+pub wrote_for : (full : Call → Bool) (done asked : Call) (text asked_text : List ℕ) (before : Option (List ℕ)) (holding : MemoryTarget) (now : Option (List ℕ)) (kept : MemoryTarget) (doubt : Option Doubt) (answer : Result (Unit {0}) TargetError) → done ≡ asked → text ≡ asked_text
+    → Wrote full done (framed text) before holding now kept doubt answer → Wrote full asked (framed asked_text) before holding now kept doubt answer
+wrote_for full done asked text asked_text before holding now kept doubt answer same_call same_text wrote =
+    subst (λ (k : Call). Wrote full k (framed asked_text) before holding now kept doubt answer) same_call
+    (subst (λ (t : List ℕ). Wrote full done (framed t) before holding now kept doubt answer) same_text wrote)
+
+-- the journal's bytes lead to what the target holds, whether a call is in doubt or none
+pub journaled_holds : (bytes : Option (List ℕ)) (kept : MemoryTarget) (size : ℕ) (doubt : Option Doubt) → IsJournaled bytes kept size doubt → IfSome bytes (λ told. IsHeldIn told (held bytes kept doubt))
+journaled_holds None kept size doubt journaled = tt
+journaled_holds (Some told) kept size None journaled = (length told, record { whole = told; rest = []; parts = sym (append-nil told); sized = refl; leads = journaled.says.0; torn = inl refl })
+journaled_holds (Some told) kept size (Some doubt) journaled = journaled.says

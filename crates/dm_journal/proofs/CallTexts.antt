@@ -160,13 +160,12 @@ alter_does content table asked layout text formed_at asked_formed formed ordered
       not_from_false (is_empty (changes_from layout (table_of content table))) (ap is_empty there ∙ some_change made.0.layout layout formed_there formed (altered_primary made.0 made.2.0 layout goes) (differs made.0 made.1)) in
       let all : list_all is_written_change (changes_from layout (table_of content table)) ≡ true = ap (list_all is_written_change) there ∙ changes_are_written made.0.layout layout formed_there formed in
       let front : (not (is_meta_table table) && option_map_or (λ layout. true) (schema_in (known_of content) table) false) ≡ true =
-      and_from (not (is_meta_table table)) (option_map_or (λ layout. true) (schema_in (known_of content) table) false) parts.0 (ap (λ (o : Option Layout). option_map_or (λ layout. true) o false) known) in
-      (
+      and_from (not (is_meta_table table)) (option_map_or (λ layout. true) (schema_in (known_of content) table) false) parts.0 (ap (λ (o : Option Layout). option_map_or (λ layout. true) o false) known) in (
         and_from (not (is_meta_table table) && option_map_or (λ layout. true) (schema_in (known_of content) table) false && not (is_empty (changes_from layout (table_of content table)))) (list_all is_written_change (changes_from layout (table_of content table)))
             (and_from (not (is_meta_table table) && option_map_or (λ layout. true) (schema_in (known_of content) table) false) (not (is_empty (changes_from layout (table_of content table)))) front some) all,
         ap (option_and_then (λ l. Some (call.Alter table (in_order l))))
             (ap (λ (cs : List Change). option_and_then (λ t. changed_by cs t.layout) (table_of content table)) there ∙ ap (option_and_then (λ t. changed_by (alteration made.0.layout layout) t.layout)) made.1 ∙ led.1)
-        ∙ ap (λ l. Some (call.Alter table l)) (led.2 ∙ stays_so),
+            ∙ ap (λ l. Some (call.Alter table l)) (led.2 ∙ stays_so),
       )
 
 -- the text of an alteration of a table that is there, and of one that isn't

@@ -5,16 +5,18 @@ mod altering;
 mod call_texts;
 mod carrying;
 mod content;
-mod doubt;
 #[cfg(test)]
 mod content_tests;
+mod doubt;
 mod fault;
 mod framing;
 mod parts;
 mod pieces;
+mod statement_target;
 #[cfg(test)]
 mod tests;
 
 pub use content::{JournalContent, read_content};
 pub use fault::ContentFault;
 pub use framing::{Front, front_of};
+pub use statement_target::StatementTarget;

@@ -27,7 +27,7 @@ returns-clause-does c =
     ap (λ (changes : List Change). list_all is_typed_change changes) (sym (c.as_slice.ensures ∙ c.in_ok-changes.ensures)) ∙ c.changes_types.ensures in
     let is : alter_text c.args.table.now (alteration c.in-Some.there.now c.args.schema.now) ≡ c.push_alter-2.new.out.items =
     sym
-        (c.in_ok-push_alter-2.ensures ∙ ap (λ (b : List ℕ). b ++ alter_text c.args.table.now c.as_slice-2.result.now) c.new-text.ensures.items ∙ ap (λ (changes : List Change). alter_text c.args.table.now changes) (c.as_slice-2.ensures ∙ c.in_ok-changes.ensures)) in
+    (c.in_ok-push_alter-2.ensures ∙ ap (λ (b : List ℕ). b ++ alter_text c.args.table.now c.as_slice-2.result.now) c.new-text.ensures.items ∙ ap (λ (changes : List Change). alter_text c.args.table.now changes) (c.as_slice-2.ensures ∙ c.in_ok-changes.ensures)) in
     alter_does (content_of c.args.kept.now) c.args.table.now c.args.asked.now c.args.schema.now c.push_alter-2.new.out.items
     (formed_there (content_of c.args.kept.now) c.args.table.now c.in-Some.there.now c.in-Some.ensures c.columns-2.ensures.formed) c.columns.ensures.formed c.columns-3.ensures.formed c.requires.ordered c.requires.proper
     (typed_there (content_of c.args.kept.now) c.args.table.now c.args.schema.now c.in-Some.there.now c.in-Some.ensures typed)

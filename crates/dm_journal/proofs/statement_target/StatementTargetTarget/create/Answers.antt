@@ -1,0 +1,42 @@
+use Rattle.std.proofs.Common.{Some, ap, subst, ◌∙◌}
+use Rattle.dm_schema.specs.declared.table_name.TableName.{TableName}
+use Rattle.dm_schema.specs.Layout.{Layout}
+use Rattle.dm_schema.specs.Schemas.{in_order}
+use Rattle.dm_target.specs.declared.call.Call.TheVariants as call
+use Rattle.dm_target.specs.Memory.{content_of}
+use Rattle.dm_target.specs.Writing.{Writes}
+use Rattle.dm_journal.specs.declared.parts.Parts.{Parts}
+use Rattle.dm_journal.specs.Journaled.{call_text, held, is_full}
+use Rattle.dm_journal.proofs.Appending.{wrote_for}
+use Rattle.dm_journal.proofs.statement_target.StatementTargetTarget.create.Goals as goal
+
+pub returns-clause-written : goal.returns-clause-written
+returns-clause-written g c =
+    let wrote =
+    wrote_for (λ done. is_full c.self.inside.parts.size (call_text (content_of c.self.inside.parts.kept) done)) (call.Create c.in_ok-copy.field-0 c.in_ok-ordered.ordered) (call.Create c.args.table.now (in_order c.args.schema.now)) c.deref.result.now (call_text (content_of c.self.inside.parts.kept) (call.Create c.args.table.now (in_order c.args.schema.now)))
+    (g.J.Journal.bytes c.self.inside.parts.journal) (held (g.J.Journal.bytes c.self.inside.parts.journal) c.self.inside.parts.kept c.self.inside.parts.doubt) (g.J.Journal.bytes c.write.new.self.journal) c.write.new.self.kept c.write.new.self.doubt c.write.result
+    (ap (λ (t : TableName). call.Create t c.in_ok-ordered.ordered) c.in_ok-copy.ensures ∙ ap (λ (l : Layout). call.Create c.args.table.now l) c.in_ok-ordered.ensures)
+    (c.deref.ensures.value ∙ c.in_ok-text.ensures.text ∙ ap (λ (l : Layout). call_text (content_of c.self.inside.parts.kept) (call.Create c.args.table.now l)) c.in_ok-ordered.ensures)
+    c.write.ensures.wrote in
+    subst (λ (p : Parts _). Writes (call.Create c.args.table.now (in_order c.args.schema.now)) (λ done. is_full p.size (call_text (content_of p.kept) done)) (Some (content_of (held (g.J.Journal.bytes p.journal) p.kept p.doubt))) (Some (content_of (held (g.J.Journal.bytes c.write.new.self.journal) c.write.new.self.kept c.write.new.self.doubt))) c.write.result) c.self.view_is
+    wrote.written
+
+pub returns-clause-whole : goal.returns-clause-whole
+returns-clause-whole g c =
+    let wrote =
+    wrote_for (λ done. is_full c.self.inside.parts.size (call_text (content_of c.self.inside.parts.kept) done)) (call.Create c.in_ok-copy.field-0 c.in_ok-ordered.ordered) (call.Create c.args.table.now (in_order c.args.schema.now)) c.deref.result.now (call_text (content_of c.self.inside.parts.kept) (call.Create c.args.table.now (in_order c.args.schema.now)))
+    (g.J.Journal.bytes c.self.inside.parts.journal) (held (g.J.Journal.bytes c.self.inside.parts.journal) c.self.inside.parts.kept c.self.inside.parts.doubt) (g.J.Journal.bytes c.write.new.self.journal) c.write.new.self.kept c.write.new.self.doubt c.write.result
+    (ap (λ (t : TableName). call.Create t c.in_ok-ordered.ordered) c.in_ok-copy.ensures ∙ ap (λ (l : Layout). call.Create c.args.table.now l) c.in_ok-ordered.ensures)
+    (c.deref.ensures.value ∙ c.in_ok-text.ensures.text ∙ ap (λ (l : Layout). call_text (content_of c.self.inside.parts.kept) (call.Create c.args.table.now l)) c.in_ok-ordered.ensures)
+    c.write.ensures.wrote in
+    rw (← c.self.view_is) wrote.whole
+
+pub returns-clause-appends : goal.returns-clause-appends
+returns-clause-appends g c =
+    let wrote =
+    wrote_for (λ done. is_full c.self.inside.parts.size (call_text (content_of c.self.inside.parts.kept) done)) (call.Create c.in_ok-copy.field-0 c.in_ok-ordered.ordered) (call.Create c.args.table.now (in_order c.args.schema.now)) c.deref.result.now (call_text (content_of c.self.inside.parts.kept) (call.Create c.args.table.now (in_order c.args.schema.now)))
+    (g.J.Journal.bytes c.self.inside.parts.journal) (held (g.J.Journal.bytes c.self.inside.parts.journal) c.self.inside.parts.kept c.self.inside.parts.doubt) (g.J.Journal.bytes c.write.new.self.journal) c.write.new.self.kept c.write.new.self.doubt c.write.result
+    (ap (λ (t : TableName). call.Create t c.in_ok-ordered.ordered) c.in_ok-copy.ensures ∙ ap (λ (l : Layout). call.Create c.args.table.now l) c.in_ok-ordered.ensures)
+    (c.deref.ensures.value ∙ c.in_ok-text.ensures.text ∙ ap (λ (l : Layout). call_text (content_of c.self.inside.parts.kept) (call.Create c.args.table.now l)) c.in_ok-ordered.ensures)
+    c.write.ensures.wrote in
+    rw (← c.self.view_is) wrote.appends
