@@ -7,6 +7,7 @@ pub mod Fronts
 pub mod Headers
 pub mod KnownSchemas
 pub mod Laws
+pub mod Opened
 pub mod OpsRecords
 pub mod Performing
 pub mod Taking

@@ -6,3 +6,4 @@ pub mod Framing
 pub mod Headers
 pub mod Journaled
 pub mod Parts
+pub mod Opening

@@ -1,11 +1,11 @@
-ghost use Rattle.std.specs.Prelude.{◌≡◌, ◌≤◌, ◌↔◌, Some, is_none, IfSome, IsErrOf, IsTrue};
+ghost use Rattle.std.specs.Prelude.{◌≡◌, ◌≤◌, ◌↔◌, Some, None, is_none, IfSome, IsErrOf, IsTrue};
 ghost use Rattle.dm_base.specs.Outside.{Rose};
 ghost use Rattle.dm_schema.specs.Schemas.{in_order};
 ghost use Rattle.dm_target.specs.Memory.{calls_of, content_of};
 ghost use Rattle.dm_target.specs.Writing.{Grows, IsProper, IsWhole, NotFailed, Writes};
 ghost use Rattle.dm_target.specs.declared.call.Call.TheVariants.{Create, Alter, Apply, Metas};
 ghost use Rattle.dm_journal.specs.Framing.{framed};
-ghost use Rattle.dm_journal.specs.Journaled.{Appends, IsHeldIn, call_text, held, is_full};
+ghost use Rattle.dm_journal.specs.Journaled.{Appends, IsHeldIn, IsJournaled, call_text, held, is_full};
 
 use crate::call_texts::{alter_text, create_text, metas_text, ops_text};
 use crate::parts::Parts;
@@ -13,7 +13,7 @@ use dm_base::Journal;
 use dm_list::{Bytes, Copied, Sequence};
 use dm_schema::{Schema, TableName};
 use dm_table::{RowOp, TableFault};
-use dm_target::{Call, Meta, Target, TargetError, copy_metas, copy_ops, in_order};
+use dm_target::{Call, MemoryTarget, Meta, Target, TargetError, copy_metas, copy_ops, in_order};
 use dm_value::Rows;
 use std::alloc::{AllocError, Global};
 use std::marker::Model;
@@ -43,6 +43,21 @@ impl<J: Journal> Model for StatementTarget<J> {
 }
 
 impl<J: Journal> StatementTarget<J> {
+    /// A target over a journal whose records lead to what is kept.
+    pub(crate) fn new(journal: J, kept: MemoryTarget, size: usize) -> StatementTarget<J>
+        requires { IsJournaled (J.bytes journal) kept size None }
+        ensures { result ≡ record { journal = journal; kept = kept; size = size; doubt = None } }
+    {
+        StatementTarget {
+            parts: Parts {
+                journal,
+                kept,
+                size,
+                doubt: None,
+            },
+        }
+    }
+
     /// The journal, as the calls left it.
     pub fn close(self) -> J
         ensures journal { result ≡ self.journal }
