@@ -15,6 +15,8 @@ mod parts;
 mod pieces;
 mod statement_target;
 #[cfg(test)]
+mod statement_tests;
+#[cfg(test)]
 mod tests;
 
 pub use content::{JournalContent, read_content};
