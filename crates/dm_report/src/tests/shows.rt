@@ -3,10 +3,10 @@ ghost use Rattle.std.specs.List.{list_all};
 ghost use Rattle.dm_schema.specs.Kinds.{is_column};
 
 use crate::show_text;
-use dm_list::Bytes;
+use dm_list::{Bytes, Sequence};
 use dm_schema::{Column, DefaultRule, Kind, Names, Schema, TableName};
 use dm_table::RowOp;
-use dm_target::{MemoryTarget, Meta, Target};
+use dm_target::{Call, MemoryTarget, Meta, in_order};
 use dm_value::{Name, Row, Value};
 use std::alloc::{AllocError, Global};
 use std::test::Fail;
@@ -72,10 +72,13 @@ fn insertion(alloc: Global, id: i128, value: Value) -> Result<RowOp, AllocError>
     })
 }
 
-fn insertions(alloc: Global) -> Result<Vec<RowOp>, AllocError> {
+fn insertions(alloc: Global) -> Result<Call, AllocError> {
     let second = insertion(alloc, 2, Value::Null)?;
     let first = insertion(alloc, 1, Value::Int(-7))?;
-    Ok(vec![in alloc; second, first]?)
+    Ok(Call::Apply {
+        table: table_name(alloc)?,
+        ops: Sequence::new(vec![in alloc; second, first]?),
+    })
 }
 
 fn meta(alloc: Global, name: &[u8], text: &[u8]) -> Result<Meta, AllocError> {
@@ -85,18 +88,21 @@ fn meta(alloc: Global, name: &[u8], text: &[u8]) -> Result<Meta, AllocError> {
     })
 }
 
-fn metas(alloc: Global) -> Result<Vec<Meta>, AllocError> {
+fn metas(alloc: Global) -> Result<Call, AllocError> {
     let second = meta(alloc, b"shard a `s`.`t0`", b"{\"version\":1}")?;
     let first = meta(alloc, b"lock `m`.`t`", b"")?;
-    Ok(vec![in alloc; second, first]?)
+    Ok(Call::Metas {
+        pairs: Sequence::new(vec![in alloc; second, first]?),
+    })
 }
 
 fn target(alloc: Global) -> Result<MemoryTarget, Fail> {
     let mut target = MemoryTarget::new(alloc);
     let table = table_name(alloc)?;
-    target.create(alloc, &table, &schema(alloc)?)?;
-    target.apply(alloc, &table, &insertions(alloc)?)?;
-    target.put_meta(alloc, &metas(alloc)?)?;
+    let schema = in_order(alloc, &schema(alloc)?)?;
+    target.carry_out(alloc, Call::Create { table, schema })?;
+    target.carry_out(alloc, insertions(alloc)?)?;
+    target.carry_out(alloc, metas(alloc)?)?;
     Ok(target)
 }
 
