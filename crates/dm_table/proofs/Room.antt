@@ -90,8 +90,8 @@ room_stays changes rest rows now k change is put room q row left = by (same_row 
   by : (b : Bool) → same_row q k ≡ b → is_some (fin.get now q) ≡ true
   by true same =
       let none : Some (Some row) ≡ None =
-          sym left ∙ get-entries rest q ∙ ap (λ (x : Row). find row_cmp x (fin.entries rest)) (same_is_same q k same)
-          ∙ apart k (fin.entries rest) (first _ _ (subst (λ (es : List (Row × Option Row)). T (is_sorted row_cmp es)) is (entries_sorted changes))) in
+      sym left ∙ get-entries rest q ∙ ap (λ (x : Row). find row_cmp x (fin.entries rest)) (same_is_same q k same)
+      ∙ apart k (fin.entries rest) (first _ _ (subst (λ (es : List (Row × Option Row)). T (is_sorted row_cmp es)) is (entries_sorted changes))) in
       absurd (cc none)
   by false other =
       ap is_some (ap (λ (m : RowMap). fin.get m q) put ∙ get-changed rows k change q ∙ ap (λ b. cond b change (fin.get rows q)) other)
@@ -127,10 +127,10 @@ module _ (changes : ChangeMap) (old : RowMap) (keys : List Row) (are : keys ≡ 
   pub carried_same : (now : RowMap) → IsFilled keys old now → carried (fin.entries changes) now ≡ carried (fin.entries changes) old
   carried_same now filled = same_map row_total row_exact (carried (fin.entries changes) now) (carried (fin.entries changes) old)
       (λ q. get-carried changes now q ∙ by q (fin.get changes q) refl ∙ sym (get-carried changes old q)) where
-    by : (q : Row) (o : Option (Option Row)) → fin.get changes q ≡ o → unwrap_or (fin.get changes q) (fin.get now q) ≡ unwrap_or (fin.get changes q) (fin.get old q)
-    by q None untouched =
-        ap (unwrap_or (fin.get changes q)) (filled.elsewhere q (is_fresh q ∙ ap (λ o. option_map_or (λ change. is_some change && is_none (fin.get old q)) o false) untouched))
-    by q (Some change) touched = ap (λ o. unwrap_or o (fin.get now q)) touched ∙ sym (ap (λ o. unwrap_or o (fin.get old q)) touched)
+        by : (q : Row) (o : Option (Option Row)) → fin.get changes q ≡ o → unwrap_or (fin.get changes q) (fin.get now q) ≡ unwrap_or (fin.get changes q) (fin.get old q)
+        by q None untouched =
+            ap (unwrap_or (fin.get changes q)) (filled.elsewhere q (is_fresh q ∙ ap (λ o. option_map_or (λ change. is_some change && is_none (fin.get old q)) o false) untouched))
+        by q (Some change) touched = ap (λ o. unwrap_or o (fin.get now q)) touched ∙ sym (ap (λ o. unwrap_or o (fin.get old q)) touched)
 
 -- what holds anyway holds where a call failed
 pub either_way : {A E P : Type 0} (r : Result A E) → P → OnErr r P

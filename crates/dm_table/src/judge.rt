@@ -244,7 +244,9 @@ fn is_taken_where_unchanged(
 {
     let changes = rows.changes();
     for (place, other) in rows.base().in_order() {
-        if changes.get(place).is_none() && is_other(op, place) && agree_in(key, columns, row, other)
+        if changes.get(place).is_none()
+            && is_other(op, place)
+            && agree_in(key, columns, row, other)
         {
             return true;
         }
