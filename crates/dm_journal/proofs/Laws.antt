@@ -1,7 +1,8 @@
 -- Laws of what a journal's bytes say: what leads goes on, and is determined.
 use Rattle.std.proofs.Common.{◌≡◌, inl, inr, ℕ, ◌^◌, ◌<◌, List, [], ◌∷◌, ◌++◌, length, Option, Some, Result, Ok, refl, sym, ap, ◌∙◌, subst, arith, append_assoc, append-nil}
 use Rattle.std.proofs.lemmas.List.{length-append}
-use Rattle.dm_target.specs.Contents.{Content, effect, no_content}
+use Rattle.dm_table.specs.declared.fault.TableFault.{TableFault}
+use Rattle.dm_target.specs.Contents.{Content, and_then, effect, effects, no_content}
 use Rattle.dm_target.specs.declared.call.Call.{Call}
 use Rattle.dm_stmt_read.proofs.Laws.{one_record}
 use Rattle.dm_journal.specs.Framing.{HasRoom, framed}
@@ -115,3 +116,61 @@ leads_past a b left content xs ys r s first calls few start same rest not_rest n
 pub holds_is_not_bad : (bytes : List ℕ) (content : Content) (calls : List Call) (size at : ℕ) → length bytes < 2 ^ 32 → Holds bytes content calls size → IsBadAt bytes at → ⊥
 holds_is_not_bad bytes content calls size at few holds bad =
     leads_past no_content no_content content bad.content holds.whole bad.whole holds.rest bad.rest calls bad.calls (few_whole bytes holds.whole holds.rest holds.parts few) refl (sym holds.parts ∙ bad.parts) holds.torn bad.not_rest bad.does_nothing holds.leads bad.leads
+
+-- The moments between records.
+
+-- what calls lead to is their effect, one after another
+pub leads_effects : (start after : Content) (bytes : List ℕ) (calls : List Call) → Leads start bytes calls after → effects calls start ≡ Ok after
+leads_effects start after bytes calls (Nowhere content) = refl
+leads_effects start after bytes calls (Further content middle end text rest done others room does leads) =
+    ap (λ (r : Result Content TableFault). and_then r (effects others)) does.leaves ∙ leads_effects middle after rest others leads
+
+-- some of the records, and what is behind them
+pub record AreParts (start after : Content) (bytes : List ℕ) (first second : List Call) : Type 0 where
+  pub middle : Content
+  pub front : List ℕ
+  pub back : List ℕ
+  pub parts : bytes ≡ front ++ back
+  pub leads : Leads start front first middle
+  pub further : Leads middle back second after
+
+-- the first calls are those of the first records
+pub leads_in_parts : (start after : Content) (bytes : List ℕ) (first second : List Call) → Leads start bytes (first ++ second) after → AreParts start after bytes first second
+leads_in_parts start after bytes [] second leads = record { middle = start; front = []; back = bytes; parts = refl; leads = Nowhere start; further = leads }
+leads_in_parts start after bytes (x ∷ first) second (Further content middle end text rest done others room does leads) =
+    let behind = leads_in_parts middle after rest first second leads in
+    record {
+      middle = behind.middle;
+      front = framed text ++ behind.front;
+      back = behind.back;
+      parts = ap (λ (b : List ℕ). framed text ++ b) behind.parts ∙ sym (append_assoc (framed text) behind.front behind.back);
+      leads = Further content middle behind.middle text behind.front done first room does behind.leads;
+      further = behind.further;
+    }
+
+-- Every front that is whole records leads where the first calls do, and the others lead on from there.
+pub record IsMoment (middle after : Content) (back : List ℕ) (first calls : List Call) : Type 0 where
+  pub second : List Call
+  pub parts : calls ≡ first ++ second
+  pub further : Leads middle back second after
+
+pub leads_at_each_front : (a b middle after : Content) (bytes front back : List ℕ) (first calls : List Call) → length bytes < 2 ^ 32 → a ≡ b → bytes ≡ front ++ back → Leads a bytes calls after → Leads b front first middle
+    → IsMoment middle after back first calls
+leads_at_each_front a b middle after bytes front back first calls few start parts leads (Nowhere content) = record {
+  second = calls;
+  parts = refl;
+  further = subst (λ (c : Content). Leads c back calls after) start (subst (λ (bs : List ℕ). Leads a bs calls after) parts leads);
+}
+leads_at_each_front a b middle after bytes front back first calls few start parts (Nowhere here) (Further content next end text rest done others room does leads) =
+    absurd (whole_is_not_empty text (rest ++ back) (parts ∙ append_assoc (framed text) rest back))
+leads_at_each_front a b middle after bytes front back first calls few start parts (Further here next_here end_here text_here rest_here done_here others_here room_here does_here leads_here) (Further content next end text rest done others room does leads) =
+    let same : framed text_here ++ rest_here ≡ framed text ++ (rest ++ back) = parts ∙ append_assoc (framed text) rest back in
+    let texts = framed_unique text_here text rest_here (rest ++ back) room_here room same in
+    let pieces = few_parts text_here rest_here few in
+    let did = does_one a next_here next text_here done_here done pieces.0 does_here (does_from a b text_here text done next start texts.0 does) in
+    let moment = leads_at_each_front next_here next middle after rest_here rest back others others_here pieces.1 did.1 texts.1 leads_here leads in
+    record {
+      second = moment.second;
+      parts = λ i. did.0 i ∷ moment.parts i;
+      further = moment.further;
+    }
