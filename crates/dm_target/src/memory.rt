@@ -19,7 +19,7 @@ use std::collections::BTreeMap;
 
 /// A target that is kept in memory. It never fails and is never full.
 ///
-/// Each call that sets texts copies all that are there, and each that changes rows copies those of its table.
+/// Each call that sets texts copies all that are there.
 #[derive(Drop)]
 pub struct MemoryTarget {
     tables: Tables,
