@@ -257,6 +257,52 @@ fn refuses_a_row_too_much(rt: HostRuntime) -> Result<(), Fail> {
     Ok(())
 }
 
+fn push_columns(alloc: Global, text: &mut Vec<u8>, columns: u32) -> Result<(), AllocError> {
+    for number in 1..columns {
+        text.extend_from_slice(format!(in alloc; ", c{number} INT")?.as_bytes())?;
+    }
+    Ok(())
+}
+
+fn push_row(text: &mut Vec<u8>, columns: u32) -> Result<(), AllocError> {
+    text.extend_from_slice(b"(1")?;
+    for _ in 1..columns {
+        text.extend_from_slice(b",1")?;
+    }
+    text.extend_from_slice(b")")
+}
+
+/// A table with so many rows of so many columns.
+fn rows_of(alloc: Global, rows: u32, columns: u32) -> Result<Vec<u8>, AllocError> {
+    let mut text = b"CREATE TABLE t (k INT PRIMARY KEY".to_vec(alloc)?;
+    push_columns(alloc, &mut text, columns)?;
+    text.extend_from_slice(b"); INSERT INTO t VALUES ")?;
+    push_row(&mut text, columns)?;
+    for _ in 1..rows {
+        text.push(b',')?;
+        push_row(&mut text, columns)?;
+    }
+    Ok(text)
+}
+
+/// All rows together have 64,000,000 values at most: 64 times 4,000 rows of 250 columns.
+#[test]
+fn refuses_a_value_too_much(rt: HostRuntime) -> Result<(), Fail> {
+    let mut words = ["a.sql"; 65];
+    words[0] = "load";
+    let dump = rows_of(rt.alloc(), 4_001, 250)?;
+    assert!(rt;
+        ends_with(
+            rt.alloc(),
+            &words,
+            files(&[&dump]),
+            9,
+            b"fault Limit Values\n"
+        )?
+    );
+    Ok(())
+}
+
 #[test]
 fn says_where_the_shards_of_a_task_go(rt: HostRuntime) -> Result<(), Fail> {
     let want = b"task m sources 2 shards 2 tables 1\n\
