@@ -192,7 +192,7 @@ fn bytes_behind(alloc: Global, failing: Vec<u64>, kept: Vec<u64>) -> Result<Vec<
 
 /// The bytes behind all calls, where the append of a record fails, and so many bytes of it stay. The load is the first call.
 fn broken(alloc: Global, record: u64, kept: u64) -> Result<Vec<u8>, Fail> {
-    let failing = vec![in alloc; 2 + record]?;
+    let failing = vec![in alloc; record.saturating_add(2)]?;
     bytes_behind(alloc, failing, vec![in alloc; kept]?)
 }
 
@@ -241,9 +241,10 @@ fn each_call_writes_its_record(rt: HostRuntime) -> Result<(), Fail> {
     Ok(())
 }
 
-/// Whether an append of a record that fails leaves the records before it, and what was kept of it, whatever that is.
+/// Whether an append of a record that fails leaves the records before it, and what was kept of it, for each byte from the
+/// record's first on, before `end`.
 fn is_kept(alloc: Global, record: u64, begin: usize, end: usize) -> Result<bool, Fail> {
-    for stop in begin..end + 1 {
+    for stop in begin..end {
         let bytes = broken(alloc, record, stop.saturating_sub(begin) as u64)?;
         if bytes.as_slice() != front(stop) {
             return Ok(false);
@@ -254,10 +255,10 @@ fn is_kept(alloc: Global, record: u64, begin: usize, end: usize) -> Result<bool,
 
 #[test]
 fn a_failed_append_leaves_a_front_of_its_record(rt: HostRuntime) -> Result<(), Fail> {
-    assert!(rt; is_kept(rt.alloc(), 0, 0, 250)?);
-    assert!(rt; is_kept(rt.alloc(), 1, 250, 351)?);
-    assert!(rt; is_kept(rt.alloc(), 2, 351, 423)?);
-    assert!(rt; is_kept(rt.alloc(), 3, 423, 494)?);
+    assert!(rt; is_kept(rt.alloc(), 0, 0, 251)?);
+    assert!(rt; is_kept(rt.alloc(), 1, 250, 352)?);
+    assert!(rt; is_kept(rt.alloc(), 2, 351, 424)?);
+    assert!(rt; is_kept(rt.alloc(), 3, 423, 495)?);
     Ok(())
 }
 
