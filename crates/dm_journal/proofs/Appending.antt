@@ -1,5 +1,6 @@
 -- What a call that is written leaves of the target and of the journal.
 use Rattle.std.proofs.Common.{◌≡◌, inl, inr, ℕ, zero, suc, ◌+◌, ◌<◌, ◌≤◌, Bool, true, false, cond, ◌==◌, List, [], ◌∷◌, ◌++◌, length, take, drop, Option, Some, None, Result, Ok, Err, refl, sym, ap, subst, ◌∙◌, arith, append-nil}
+use Rattle.std.proofs.lemmas.Option.{same_Some}
 use Rattle.std.specs.Prelude.{◌⊎◌, ◌↔◌, is_none, IfSome, IsTrue, IsFalse}
 use Rattle.std.proofs.lemmas.Bool.{false≢true, eqb-false, eqb-true}
 use Rattle.std.proofs.lemmas.List.{length-append, take-append-drop}
@@ -18,9 +19,6 @@ use Rattle.http_server.specs.declared.log.Log.{Log}
 use Rattle.dm_journal.specs.Parts.{HasAppended}
 use Rattle.dm_journal.specs.declared.doubt.Doubt.{Doubt}
 use Rattle.dm_journal.proofs.Laws.{leads_further}
-
-some_same : {A : Type 0} {a b : A} → ◌≡◌ {A = Option A} (Some a) (Some b) → a ≡ b
-some_same e = cc
 
 -- without a call in doubt a target holds what is kept
 pub held_kept : (bytes : Option (List ℕ)) (kept : MemoryTarget) (doubt : Option Doubt) → doubt ≡ None → held bytes kept doubt ≡ kept
@@ -65,10 +63,10 @@ module _ (full : Call → Bool) (done : Call) (piece : List ℕ) (bytes : Option
 -- a call that is refused leaves the target in memory as it was
 pub refused_same : (done : Call) (before after : MemoryTarget) (e : TargetError) → Writes done (λ c. false) (Some (content_of before)) (Some (content_of after)) (Err e) → Grows done (Some (calls_of before)) (Some (calls_of after)) (Err e) → NotFailed (Err e)
     → (content_of after ≡ content_of before) × (calls_of after ≡ calls_of before)
-refused_same done before after (error.Rejected f) writes grows sound = (some_same writes.1, some_same grows)
+refused_same done before after (error.Rejected f) writes grows sound = (same_Some _ _ writes.1, same_Some _ _ grows)
 refused_same done before after error.Failed writes grows sound = absurd sound
-refused_same done before after error.Full writes grows sound = (some_same writes.2, some_same grows)
-refused_same done before after error.Memory writes grows sound = (some_same writes, some_same grows)
+refused_same done before after error.Full writes grows sound = (same_Some _ _ writes.2, same_Some _ _ grows)
+refused_same done before after error.Memory writes grows sound = (same_Some _ _ writes, same_Some _ _ grows)
 
 -- what is kept may be another target with the same content and calls
 pub still_journaled : (bytes : Option (List ℕ)) (before after : MemoryTarget) (size : ℕ) (doubt : Option Doubt) → doubt ≡ None → (content_of after ≡ content_of before) × (calls_of after ≡ calls_of before)
@@ -153,11 +151,11 @@ module _ (done : Call) (text : List ℕ) (before after : MemoryTarget) (does : I
     (writes : Writes done (λ c. false) (Some (content_of before)) (Some (content_of after)) (Ok tt)) (grows : Grows done (Some (calls_of before)) (Some (calls_of after)) (Ok tt)) where
   -- the record's text did what the call did
   did : Does (content_of before) text done (content_of after)
-  did = subst (λ (c : Content). Does (content_of before) text done c) (sym (some_same writes.0.2)) (does writes.0.0 writes.0.1)
+  did = subst (λ (c : Content). Does (content_of before) text done c) (sym (same_Some _ _ writes.0.2)) (does writes.0.0 writes.0.1)
 
   leads_behind : (told : List ℕ) → HasRoom text → Leads no_content told (calls_of before) (content_of before) → Leads no_content (told ++ framed text) (calls_of after) (content_of after)
   leads_behind told room leads =
-      subst (λ (calls : List Call). Leads no_content (told ++ framed text) calls (content_of after)) (sym (some_same grows))
+      subst (λ (calls : List Call). Leads no_content (told ++ framed text) calls (content_of after)) (sym (same_Some _ _ grows))
       (leads_further no_content (content_of before) (content_of after) told text (calls_of before) done leads room did)
 
   pub made_journaled : (bytes now : Option (List ℕ)) (size now_size : ℕ) (doubt now_doubt : Option Doubt) → doubt ≡ None → size + length (framed text) ≤ most_bytes → now ≡ added bytes (framed text)

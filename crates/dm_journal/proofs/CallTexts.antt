@@ -1,5 +1,6 @@
 -- The text of a call's record does what the call does.
 use Rattle.std.proofs.Common.{◌≡◌, ℕ, true, false, List, [], Option, Some, None, Result, Ok, Err, refl, sym, ap, ◌∙◌}
+use Rattle.std.proofs.lemmas.Option.{same_Some}
 use Rattle.std.specs.Prelude.{◌&&◌, ◌==◌, not, length, option_and_then}
 use Rattle.std.specs.Cmp.Lexicographic.{pointwise}
 use Rattle.std.specs.List.{flat_map, list_all}
@@ -32,7 +33,7 @@ use Rattle.dm_stmt_read.specs.Reading.{is_typed, is_typed_change, is_typed_colum
 use Rattle.dm_journal.specs.Contents.{call_of, changed_by, known_of}
 use Rattle.dm_journal.specs.Journaled.{IsTextFor, call_text, record_for}
 use Rattle.dm_journal.proofs.AlterRecords.{alteration_leads, altered_primary, changes_are_written, some_change}
-use Rattle.dm_journal.proofs.KnownSchemas.{get-known_of}
+use Rattle.dm_journal.proofs.KnownSchemas.{get-known_of, layout_of}
 use Rattle.dm_journal.proofs.OpsRecords.{ops_are_written}
 
 -- a record that is written, and stands for the call wherever that has an effect, has a text for it
@@ -62,19 +63,13 @@ metas_does content pairs text proper is = written content (call.Metas pairs) tex
 
 -- Calls of a table that is there.
 
-abbrev layout_of : TableContent → Layout
-layout_of there = there.layout
-
 -- if the table is there, its schema is one
 abbrev pub IsFormedThere : Content → TableName → Type 0
 IsFormedThere content table = (t : TableContent) → table_of content table ≡ Some t → is_formed t.layout ≡ true
 
-some_same : {A : Type 0} {a b : A} → ◌≡◌ {A = Option A} (Some a) (Some b) → a ≡ b
-some_same e = cc
-
 -- the table has the schema that was found
 there_is : (o : Option TableContent) (there : Layout) → Some there ≡ option_map layout_of o → (t : TableContent) → o ≡ Some t → there ≡ t.layout
-there_is o there found t is = some_same (found ∙ ap (option_map layout_of) is)
+there_is o there found t is = same_Some _ _ (found ∙ ap (option_map layout_of) is)
 
 pub formed_there : (content : Content) (table : TableName) (there : Layout) → Some there ≡ option_map layout_of (table_of content table) → is_formed there ≡ true → IsFormedThere content table
 formed_there content table there found formed t is = ap is_formed (sym (there_is (table_of content table) there found t is)) ∙ formed
@@ -173,7 +168,7 @@ pub alter_text_there : (content : Content) (table : TableName) (layout there : L
 alter_text_there content table layout there found = by (table_of content table) found where
   by : (o : Option TableContent) → Some there ≡ option_map layout_of o → alter_text table (alteration there layout) ≡ alter_text table (changes_from layout o)
   by None e = absurd cc
-  by (Some t) e = ap (λ l. alter_text table (alteration l layout)) (some_same e)
+  by (Some t) e = ap (λ l. alter_text table (alteration l layout)) (same_Some _ _ e)
 
 pub alter_text_nowhere : (content : Content) (table : TableName) (layout : Layout) → None ≡ option_map layout_of (table_of content table) → alter_text table [] ≡ call_text content (call.Alter table layout)
 alter_text_nowhere content table layout nowhere = by (table_of content table) nowhere where
@@ -186,7 +181,7 @@ pub typed_there : (content : Content) (table : TableName) (layout there : Layout
 typed_there content table layout there found typed = by (table_of content table) found where
   by : (o : Option TableContent) → Some there ≡ option_map layout_of o → list_all is_typed_change (changes_from layout o) ≡ true
   by None e = absurd cc
-  by (Some t) e = ap (λ l. list_all is_typed_change (alteration l layout)) (sym (some_same e)) ∙ typed
+  by (Some t) e = ap (λ l. list_all is_typed_change (alteration l layout)) (sym (same_Some _ _ e)) ∙ typed
 
 pub typed_nowhere : (content : Content) (table : TableName) (layout : Layout) → None ≡ option_map layout_of (table_of content table) → list_all is_typed_change (changes_from layout (table_of content table)) ≡ true
 typed_nowhere content table layout nowhere = by (table_of content table) nowhere where
@@ -203,4 +198,4 @@ other_primary content table layout there found differs = by (table_of content ta
 
   by : (o : Option TableContent) → Some there ≡ option_map layout_of o → with_table content table (if_there o (λ t. altered t layout)) ≡ Err fault.PrimaryDiffers
   by None e = absurd cc
-  by (Some t) e = ap (with_table content table) (refused t (some_same e))
+  by (Some t) e = ap (with_table content table) (refused t (same_Some _ _ e))

@@ -36,7 +36,7 @@ total = total-law
 exact : IsAntisymmetric table_name_cmp
 exact a b h = ap (λ (p : Text × Text). record { db = p.0; table = p.1 }) (exact_pairs _ _ exact_bytes exact_bytes (a.db, a.table) (b.db, b.table) h)
 
-abbrev layout_of : TableContent → Layout
+abbrev pub layout_of : TableContent → Layout
 layout_of there = there.layout
 
 option_map-cond : (b : Bool) (table : TableContent) (o : Option TableContent) → option_map layout_of (cond b (Some table) o) ≡ cond b (Some table.layout) (option_map layout_of o)
