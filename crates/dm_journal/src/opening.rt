@@ -1,4 +1,4 @@
-ghost use Rattle.std.specs.Prelude.{◌≡◌, ◌≤◌, ◌<◌, ◌^◌, None, length, IfOk, IfErr, IfSome, IsErrOf};
+ghost use Rattle.std.specs.Prelude.{◌≡◌, ◌≤◌, None, length, IfOk, IfErr, IfSome, IsErrOf};
 ghost use Rattle.dm_base.specs.Outside.{Rose};
 ghost use Rattle.dm_target.specs.Memory.{calls_of, content_of};
 ghost use Rattle.dm_journal.specs.Contents.{Holds};

@@ -1,4 +1,4 @@
-ghost use Rattle.std.specs.Prelude.{◌≡◌, ◌+◌, ◌≤◌, Some, None, Ok, Err, length, MatchBool, IfOk, IsErrOf, IsTrue};
+ghost use Rattle.std.specs.Prelude.{◌≡◌, ◌+◌, ◌≤◌, None, length, IsErrOf};
 ghost use Rattle.dm_base.specs.Outside.{Rose};
 ghost use Rattle.dm_target.specs.Memory.{content_of};
 ghost use Rattle.dm_journal.specs.Framing.{framed};
