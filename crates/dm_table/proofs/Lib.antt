@@ -17,3 +17,6 @@ pub mod Lookups
 pub mod Behind
 pub mod Room
 pub mod Cleared
+pub mod Told
+pub mod Gathered
+pub mod Indexed

@@ -21,7 +21,7 @@ pub record Passes {X : Type 0} (p : Row × X → Bool) (m : FinMap row_cmp X) : 
   pub passes : p (key, value) ≡ true
 
 -- the key of another entry isn't that of the first
-behind_first : {X : Type 0} (e : Row × X) (es : List (Row × X)) (k : Row) (v : X) → T (is_sorted row_cmp (e ∷ es)) → find row_cmp k es ≡ Some v → find row_cmp k (e ∷ es) ≡ Some v
+pub behind_first : {X : Type 0} (e : Row × X) (es : List (Row × X)) (k : Row) (v : X) → T (is_sorted row_cmp (e ∷ es)) → find row_cmp k es ≡ Some v → find row_cmp k (e ∷ es) ≡ Some v
 behind_first e es k v h is = by (same_row k e.0) refl where
   by : (b : Bool) → same_row k e.0 ≡ b → cond b (Some e.1) (find row_cmp k es) ≡ Some v
   by true same = let none : Some v ≡ None = sym is ∙ ap (λ (q : Row). find row_cmp q es) (same_is_same k e.0 same) ∙ apart e.0 es (first _ _ h) in absurd (cc none)

@@ -76,6 +76,11 @@ taken_back keys old now new absent elsewhere removed = removed ∙ same_map row_
   by q true any = sym (absent q any)
   by q false none = elsewhere q none
 
+-- the same of room that was made
+pub room_back : (old now new : RowMap) (made back keys : List Row) → made ≡ keys → back ≡ keys → ((q : Row) → list_any (same_row q) keys ≡ true → fin.get old q ≡ None) → IsFilled made old now → new ≡ removed_all back now → new ≡ old
+room_back old now new made back keys same taken absent filled removed =
+    taken_back keys old now new absent (λ q none. filled.elsewhere q (ap (list_any (same_row q)) same ∙ none)) (removed ∙ ap (λ (ks : List Row). removed_all ks now) taken)
+
 -- One change after another.
 
 -- there is room for the first change

@@ -9,9 +9,11 @@ use Rattle.dm_table.specs.declared.op.RowOp.{RowOp}
 use Rattle.dm_table.specs.declared.fault.TableFault.{TableFault}
 use Rattle.dm_table.specs.declared.fault.TableFault.TheVariants as fault
 use Rattle.dm_table.specs.Contents.{Row, RowMap}
+use Rattle.std.specs.Option.{option_map_or}
 use Rattle.dm_list.specs.Answer.{first_refusal, unless_refused}
 use Rattle.dm_table.specs.Alterations.{alter_refusals, reshaped, is_unfit_column, is_shared}
-use Rattle.dm_table.specs.Operations.{is_unfit, needs_row, needs_room, old_row, is_primary_taken, is_unique_taken}
+use Rattle.dm_table.specs.Operations.{is_unfit, needs_row, needs_room, old_row, is_other, is_primary_taken, is_unique_taken}
+use Rattle.dm_table.specs.Indexing.{told_place}
 
 -- memory is wanting
 abbrev pub is_memory : TableFault → Bool
@@ -39,6 +41,13 @@ primary_refusals layout o rows row = (needs_room o && is_primary_taken layout o 
 
 abbrev pub unique_refusals : Layout → RowOp → RowMap → Row → List UniqueKey → List (Bool × TableFault)
 unique_refusals layout o rows row keys = map (λ key. (needs_room o && is_unique_taken layout o rows row key, fault.Duplicate (key_number layout.uniques key))) keys
+
+-- the same as an index tells it
+abbrev pub is_told_taken : Layout → RowOp → RowMap → RowMap → Row → UniqueKey → Bool
+is_told_taken layout o rows index row key = option_map_or (is_other o) (told_place key layout.columns rows index row) false
+
+abbrev pub told_refusals : Layout → RowOp → RowMap → RowMap → Row → List UniqueKey → List (Bool × TableFault)
+told_refusals layout o rows index row keys = map (λ key. (needs_room o && is_told_taken layout o rows index row key, fault.Duplicate (key_number layout.uniques key))) keys
 
 abbrev pub unfit_column_refusals : List Column → RowMap → List Column → List (Bool × TableFault)
 unfit_column_refusals before rows columns = map (λ c. (is_unfit_column before rows c, fault.Unfit c.name)) columns

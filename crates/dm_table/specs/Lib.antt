@@ -5,6 +5,7 @@ pub mod Coding
 pub mod Judging
 pub mod Meeting
 pub mod Following
+pub mod Indexing
 pub mod Seeing
 pub mod Shapes
 pub mod Staging

@@ -1,10 +1,10 @@
 ghost use Rattle.std.specs.Prelude.{◌≡◌, true, List, ◌∷◌, is_some, IsTrue, IfOk, if◌then◌else◌};
-ghost use Rattle.std.specs.List.{list_any, list_all};
+ghost use Rattle.std.specs.List.{list_all};
 ghost use Rattle.std.specs.FinMap as fin;
 ghost use Rattle.std.specs.Cmp.Lexicographic.{pointwise};
 ghost use Rattle.dm_list.specs.Answer.{first_refusal, unless_refused, Answers};
 ghost use Rattle.dm_value.specs.declared.value.Value.{Value};
-ghost use Rattle.dm_schema.specs.Kinds.{is_column, is_kind, is_null};
+ghost use Rattle.dm_schema.specs.Kinds.{is_column, is_kind};
 ghost use Rattle.dm_schema.specs.Names.{same_name};
 ghost use Rattle.dm_schema.specs.NameOrder.{columns_in_order, uniques_in_order};
 ghost use Rattle.dm_table.specs.Contents.{AreRows};
@@ -13,7 +13,7 @@ ghost use Rattle.dm_table.specs.Seeing.{seen_again, IsNoted};
 ghost use Rattle.dm_table.specs.Judging.{is_memory, altered_rows, unfit_column_refusals, shared_refusals};
 
 use crate::TableFault;
-use crate::cells::{cell, is_unfit_value};
+use crate::cells::{cell, has_null, is_unfit_value};
 use crate::keyed::KeyedRows;
 use crate::sharing::duplicate;
 use dm_list::Copied;
@@ -231,10 +231,4 @@ fn note(alloc: Global, values: Row, seen: &mut KeyedRows) -> Result<bool, AllocE
     let held = values.copy(alloc)?;
     seen.insert(values, held)?;
     Ok(false)
-}
-
-fn has_null(values: &[Value]) -> bool
-    ensures { result ≡ list_any is_null values.now }
-{
-    values.iter().any(|value| matches!(value, Value::Null))
 }

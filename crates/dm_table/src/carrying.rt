@@ -5,22 +5,40 @@ ghost use Rattle.dm_value.specs.declared.value.Value.{Value};
 ghost use Rattle.dm_table.specs.Contents.{same_row};
 ghost use Rattle.dm_table.specs.Staging.{changed, carried, fresh_keys, removed_all, HasRoom, IsFilled};
 
+use crate::applying::Changed;
 use crate::changes::Changes;
 use crate::keyed::KeyedRows;
 use dm_list::Copied;
 use dm_value::Row;
 use std::alloc::{AllocError, Global};
 
-/// Carries changes over to the rows; where memory is wanting the rows stay. First each new key is put, with an empty row,
-/// since only a new key takes memory: what comes behind that can't fail.
-pub fn carry_over(alloc: Global, rows: &mut KeyedRows, changes: Changes) -> Result<(), AllocError>
-    ensures carried { OnOk result (rows.new ≡ carried (fin.entries changes) rows.old) }
-    ensures kept { OnErr result (rows.new ≡ rows.old) }
+/// Carries changes over to rows and to their index; where memory is wanting both stay. First each new key is put, with an
+/// empty row, since only a new key takes memory: what comes behind that can't fail.
+pub fn carry_over(
+    alloc: Global,
+    rows: &mut KeyedRows,
+    index: &mut KeyedRows,
+    changed: Changed,
+) -> Result<(), AllocError>
+    ensures rows { OnOk result (rows.new ≡ carried (fin.entries changed.rows) rows.old) }
+    ensures index { OnOk result (index.new ≡ carried (fin.entries changed.index) index.old) }
+    ensures rows_kept { OnErr result (rows.new ≡ rows.old) }
+    ensures index_kept { OnErr result (index.new ≡ index.old) }
 {
-    let keys = fresh_keys(alloc, rows, &changes)?;
+    let keys = fresh_keys(alloc, rows, &changed.rows)?;
+    let entries = fresh_keys(alloc, index, &changed.index)?;
     make_room(alloc, rows, &keys)?;
-    carry_all(rows, changes);
-    Ok(())
+    match make_room(alloc, index, &entries) {
+        Ok(()) => {
+            carry_all(rows, changed.rows);
+            carry_all(index, changed.index);
+            Ok(())
+        }
+        Err(fault) => {
+            remove_all(rows, &keys);
+            Err(fault)
+        }
+    }
 }
 
 /// Copies of the keys at which a row was left and none stood.

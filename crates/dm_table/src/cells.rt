@@ -1,7 +1,8 @@
 ghost use Rattle.std.specs.Prelude.{◌≡◌, IsTrue, IfOk, unwrap_or};
 ghost use Rattle.std.specs.Option.{option_copied};
 ghost use Rattle.dm_value.specs.declared.value.Value.TheVariants as value;
-ghost use Rattle.dm_schema.specs.Kinds.{is_kind};
+ghost use Rattle.std.specs.List.{list_any};
+ghost use Rattle.dm_schema.specs.Kinds.{is_kind, is_null};
 ghost use Rattle.dm_schema.specs.Rows.{cell};
 ghost use Rattle.dm_table.specs.Operations.{named_value, is_unfit_value};
 
@@ -63,4 +64,11 @@ pub fn is_unfit_value(given: Option<&Value>, column: &Column) -> bool
         Some(value) => !fits(value, column),
         None => false,
     }
+}
+
+/// Whether one of the values is NULL.
+pub fn has_null(values: &[Value]) -> bool
+    ensures { result ≡ list_any is_null values.now }
+{
+    values.iter().any(|value| matches!(value, Value::Null))
 }

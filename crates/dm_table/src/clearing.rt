@@ -1,81 +1,108 @@
-ghost use Rattle.std.specs.Prelude.{◌≡◌, false, List, ◌++◌, IfOk, OnOk};
-ghost use Rattle.std.specs.Option.{option_map_or};
-ghost use Rattle.std.specs.List.{list_any};
+ghost use Rattle.std.specs.Prelude.{◌≡◌, ◌||◌, not, IfOk, OnOk};
+ghost use Rattle.std.specs.List.{filter};
 ghost use Rattle.std.specs.FinMap as fin;
-ghost use Rattle.dm_value.specs.declared.value.Value.{Value};
 ghost use Rattle.dm_table.specs.Contents.{same_row, share_unique};
-ghost use Rattle.dm_table.specs.Staging.{rows_behind, sharing_changed, sharing_unchanged};
+ghost use Rattle.dm_table.specs.Indexing.{Tells, told_places};
+ghost use Rattle.dm_table.specs.Staging.{rows_behind, removed_all};
 
-use crate::changes::Changes;
-use crate::keyed::KeyedRows;
-use crate::sharing::share_unique;
-use dm_list::Copied;
+use crate::indexing::{entries_of, push_some, told_place};
+use crate::staged::Staged;
 use dm_schema::Schema;
 use dm_value::Row;
 use std::alloc::{AllocError, Global};
 
-/// The keys of the rows behind changes that agree with a row in a unique key. Without unique keys no row is looked at.
-pub fn sharing_keys(
+/// Removes the row of a key, and those that agree with a row in a unique key.
+pub fn remove_sharing(
+    alloc: Global,
+    schema: &Schema,
+    key: &Row,
+    row: &Row,
+    rows: &mut Staged,
+    index: &mut Staged,
+) -> Result<(), AllocError>
+    requires { Tells schema.now (rows_behind rows.old) (rows_behind index.old) }
+    ensures behind { OnOk result (rows_behind rows.new ≡ fin.from_entries (filter (λ e. not (same_row key.now e.0 || share_unique schema.now row.now e.1)) (fin.entries (rows_behind rows.old)))) }
+    ensures told { OnOk result (Tells schema.now (rows_behind rows.new) (rows_behind index.new)) }
+    ensures rows { OnOk result (rows.new.base ≡ rows.old.base) }
+    ensures index { OnOk result (index.new.base ≡ index.old.base) }
+{
+    let sharing = sharing_keys(alloc, schema, row, rows, index)?;
+    remove_row(alloc, schema, key, rows, index)?;
+    remove_rows(alloc, schema, &sharing, rows, index)
+}
+
+/// The keys of the rows that agree with a row in a unique key.
+fn sharing_keys(
     alloc: Global,
     schema: &Schema,
     row: &Row,
-    base: &KeyedRows,
-    changes: &Changes,
+    rows: &Staged,
+    index: &Staged,
 ) -> Result<Vec<Row>, AllocError>
-    ensures { IfOk result (λ keys. (key : List Value) → list_any (same_row key) keys.items ≡ option_map_or (share_unique schema.now row.now) (fin.get (rows_behind (record { base = base.now; changes = changes.now })) key) false) }
+    ensures { IfOk result (λ keys. keys.items ≡ told_places schema.now (rows_behind rows.now) (rows_behind index.now) row.now) }
 {
+    let columns = schema.columns();
     let mut keys = Vec::new(alloc);
-    if schema.uniques().is_empty() {
-        return Ok(keys);
+    for key in schema.uniques() {
+        push_some(
+            told_place(alloc, key, columns, row, rows, index)?,
+            &mut keys,
+        )?;
     }
-    push_changed(alloc, schema, row, changes, &mut keys)?;
-    push_unchanged(alloc, schema, row, base, changes, &mut keys)?;
     Ok(keys)
 }
 
-/// Adds the keys of those that operations have left.
-fn push_changed(
+fn remove_rows(
     alloc: Global,
     schema: &Schema,
-    row: &Row,
-    changes: &Changes,
-    keys: &mut Vec<Row>,
+    keys: &[Row],
+    rows: &mut Staged,
+    index: &mut Staged,
 ) -> Result<(), AllocError>
-    ensures { OnOk result (keys.new.items ≡ keys.old.items ++ sharing_changed schema.now row.now (fin.entries changes.now)) }
+    ensures behind { OnOk result (rows_behind rows.new ≡ removed_all keys.now (rows_behind rows.old)) }
+    ensures told { OnOk result (Tells schema.now (rows_behind rows.old) (rows_behind index.old) → Tells schema.now (rows_behind rows.new) (rows_behind index.new)) }
+    ensures rows { OnOk result (rows.new.base ≡ rows.old.base) }
+    ensures index { OnOk result (index.new.base ≡ index.old.base) }
 {
-    for (key, change) in changes.in_order() {
-        if shares(schema, row, change) {
-            keys.push(key.copy(alloc)?)?;
-        }
+    for key in keys {
+        remove_row(alloc, schema, key, rows, index)?;
     }
     Ok(())
 }
 
-/// Whether a row was left that agrees with this one in a unique key.
-fn shares(schema: &Schema, row: &Row, change: &Option<Row>) -> bool
-    ensures { result ≡ option_map_or (share_unique schema.now row.now) change.now false }
-{
-    match change {
-        Some(other) => share_unique(schema, row, other),
-        None => false,
-    }
-}
-
-/// Adds the keys of those that operations haven't touched.
-fn push_unchanged(
+/// Removes the row of a key, and what the index has of it.
+pub fn remove_row(
     alloc: Global,
     schema: &Schema,
-    row: &Row,
-    base: &KeyedRows,
-    changes: &Changes,
-    keys: &mut Vec<Row>,
+    key: &Row,
+    rows: &mut Staged,
+    index: &mut Staged,
 ) -> Result<(), AllocError>
-    ensures { OnOk result (keys.new.items ≡ keys.old.items ++ sharing_unchanged schema.now row.now changes.now (fin.entries base.now)) }
+    ensures behind { OnOk result (rows_behind rows.new ≡ fin.remove (rows_behind rows.old) key.now) }
+    ensures told { OnOk result (Tells schema.now (rows_behind rows.old) (rows_behind index.old) → Tells schema.now (rows_behind rows.new) (rows_behind index.new)) }
+    ensures rows { OnOk result (rows.new.base ≡ rows.old.base) }
+    ensures index { OnOk result (index.new.base ≡ index.old.base) }
 {
-    for (key, other) in base.in_order() {
-        if changes.get(key).is_none() && share_unique(schema, row, other) {
-            keys.push(key.copy(alloc)?)?;
+    forget_row(alloc, schema, key, rows, index)?;
+    rows.remove(alloc, key)
+}
+
+/// Removes what an index has of the row of a key.
+fn forget_row(
+    alloc: Global,
+    schema: &Schema,
+    key: &Row,
+    rows: &Staged,
+    index: &mut Staged,
+) -> Result<(), AllocError>
+    ensures told { OnOk result (Tells schema.now (rows_behind rows.now) (rows_behind index.old) → Tells schema.now (fin.remove (rows_behind rows.now) key.now) (rows_behind index.new)) }
+    ensures index { OnOk result (index.new.base ≡ index.old.base) }
+{
+    match rows.get(key) {
+        Some(row) => {
+            let entries = entries_of(alloc, schema, row)?;
+            index.remove_all(alloc, &entries)
         }
+        None => Ok(()),
     }
-    Ok(())
 }

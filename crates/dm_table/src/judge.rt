@@ -1,20 +1,20 @@
-ghost use Rattle.std.specs.Prelude.{◌≡◌, ◌&&◌, IsTrue, OnOk};
+ghost use Rattle.std.specs.Prelude.{◌≡◌, IsTrue, IfOk, OnOk};
 ghost use Rattle.std.specs.Option.{option_copied};
 ghost use Rattle.std.specs.List.{list_all};
 ghost use Rattle.dm_list.specs.Answer.{first_refusal, unless_refused, Answers};
 ghost use Rattle.dm_schema.specs.Kinds.{is_column, is_kind};
 ghost use Rattle.dm_schema.specs.Schemas.{is_formed};
 ghost use Rattle.dm_schema.specs.NameOrder.{columns_in_order, uniques_in_order};
-ghost use Rattle.dm_table.specs.Operations.{refusals, names_in_order, columns_of, is_unfit, lacks_value, key_value, is_other, old_row, is_unique_taken};
-ghost use Rattle.dm_table.specs.Contents.{agree_in};
-ghost use Rattle.dm_table.specs.Staging.{rows_behind, some_changed, some_unchanged};
-ghost use Rattle.dm_table.specs.Judging.{is_memory, unknown_refusals, unfit_refusals, missing_refusals, primary_refusals, unique_refusals};
+ghost use Rattle.dm_table.specs.Operations.{refusals, names_in_order, columns_of, is_unfit, lacks_value, key_value, is_other, old_row};
+ghost use Rattle.dm_table.specs.Indexing.{Tells};
+ghost use Rattle.dm_table.specs.Staging.{rows_behind};
+ghost use Rattle.dm_table.specs.Judging.{is_memory, unknown_refusals, unfit_refusals, missing_refusals, primary_refusals, unique_refusals, told_refusals, is_told_taken};
 
 use crate::cells::{is_unfit_value, named_value};
-use crate::changes::Changes;
+use crate::indexing::told_place;
 use crate::left::{given, left_row};
 use crate::said::{SaidName, said_in_order};
-use crate::sharing::{agree_in, duplicate};
+use crate::sharing::duplicate;
 use crate::staged::Staged;
 use crate::{RowOp, TableFault};
 use dm_list::Copied;
@@ -22,10 +22,17 @@ use dm_schema::{
     Column, Schema, UniqueKey, has_column, has_fill_for_missing, in_name_order, key_of,
 };
 use dm_value::{Name, Row, Value};
-use std::alloc::Global;
+use std::alloc::{AllocError, Global};
 
 /// Whether an operation may be taken: the first of its refusals, in their order.
-pub fn judge(alloc: Global, schema: &Schema, op: &RowOp, rows: &Staged) -> Result<(), TableFault>
+pub fn judge(
+    alloc: Global,
+    schema: &Schema,
+    op: &RowOp,
+    rows: &Staged,
+    index: &Staged,
+) -> Result<(), TableFault>
+    requires { Tells schema.now (rows_behind rows.now) (rows_behind index.now) }
     ensures judged { Answers is_memory result (unless_refused (first_refusal (refusals schema.now op.now (rows_behind rows.now))) tt) }
     ensures formed { OnOk result (IsTrue (is_formed schema.now)) }
 {
@@ -34,7 +41,7 @@ pub fn judge(alloc: Global, schema: &Schema, op: &RowOp, rows: &Staged) -> Resul
     refuse_missing(op, rows)?;
     let row = left_row(alloc, schema, op, rows)?;
     refuse_primary(alloc, schema, op, rows, &row)?;
-    refuse_uniques(alloc, schema, op, rows, &row)
+    refuse_uniques(alloc, schema, op, rows, index, &row)
 }
 
 /// Refuses an operation that names a column that isn't there.
@@ -175,81 +182,54 @@ fn refuse_uniques(
     schema: &Schema,
     op: &RowOp,
     rows: &Staged,
+    index: &Staged,
     row: &Row,
 ) -> Result<(), TableFault>
+    requires { Tells schema.now (rows_behind rows.now) (rows_behind index.now) }
     ensures { Answers is_memory result (unless_refused (first_refusal (unique_refusals schema.now op.now (rows_behind rows.now) row.now (uniques_in_order schema.now.uniques))) tt) }
 {
     let keys = in_name_order(alloc, schema.uniques())?;
-    refuse_uniques_among(schema, op, rows, row, &keys)
+    refuse_uniques_among(alloc, schema, op, rows, index, row, &keys)
 }
 
 fn refuse_uniques_among(
+    alloc: Global,
     schema: &Schema,
     op: &RowOp,
     rows: &Staged,
+    index: &Staged,
     row: &Row,
     keys: &[UniqueKey],
 ) -> Result<(), TableFault>
-    ensures { Answers is_memory result (unless_refused (first_refusal (unique_refusals schema.now op.now (rows_behind rows.now) row.now keys.now)) tt) }
+    ensures { Answers is_memory result (unless_refused (first_refusal (told_refusals schema.now op.now (rows_behind rows.now) (rows_behind index.now) row.now keys.now)) tt) }
 {
     match keys {
         [] => Ok(()),
         [key, rest @ ..] => {
-            if op.needs_room() && is_unique_taken(schema, op, rows, row, key) {
+            if op.needs_room() && is_unique_taken(alloc, schema, op, rows, index, row, key)? {
                 return Err(duplicate(schema, key));
             }
-            refuse_uniques_among(schema, op, rows, row, rest)
+            refuse_uniques_among(alloc, schema, op, rows, index, row, rest)
         }
     }
 }
 
-/// Whether another row agrees with this one in a unique key.
-fn is_unique_taken(schema: &Schema, op: &RowOp, rows: &Staged, row: &Row, key: &UniqueKey) -> bool
-    ensures { result ≡ is_unique_taken schema.now op.now (rows_behind rows.now) row.now key.now }
-{
-    let columns = schema.columns();
-    is_taken_where_changed(columns, op, rows.changes(), row, key)
-        || is_taken_where_unchanged(columns, op, rows, row, key)
-}
-
-/// Whether such a row is among those that operations have left.
-fn is_taken_where_changed(
-    columns: &[Column],
-    op: &RowOp,
-    changes: &Changes,
-    row: &Row,
-    key: &UniqueKey,
-) -> bool
-    ensures { result ≡ some_changed (λ e. is_other op.now e.0 && agree_in key.now columns.now row.now e.1) changes.now }
-{
-    for (place, change) in changes.in_order() {
-        if let Some(other) = change {
-            if is_other(op, place) && agree_in(key, columns, row, other) {
-                return true;
-            }
-        }
-    }
-    false
-}
-
-/// Whether such a row is among those that operations haven't touched.
-fn is_taken_where_unchanged(
-    columns: &[Column],
+/// Whether the index has another row that agrees with this one in a unique key.
+fn is_unique_taken(
+    alloc: Global,
+    schema: &Schema,
     op: &RowOp,
     rows: &Staged,
+    index: &Staged,
     row: &Row,
     key: &UniqueKey,
-) -> bool
-    ensures { result ≡ some_unchanged (λ e. is_other op.now e.0 && agree_in key.now columns.now row.now e.1) rows.now }
+) -> Result<bool, AllocError>
+    ensures { IfOk result (λ taken. taken ≡ is_told_taken schema.now op.now (rows_behind rows.now) (rows_behind index.now) row.now key.now) }
 {
-    let changes = rows.changes();
-    for (place, other) in rows.base().in_order() {
-        if changes.get(place).is_none()
-            && is_other(op, place)
-            && agree_in(key, columns, row, other)
-        {
-            return true;
-        }
-    }
-    false
+    Ok(
+        match told_place(alloc, key, schema.columns(), row, rows, index)? {
+            Some(place) => is_other(op, &place),
+            None => false,
+        },
+    )
 }

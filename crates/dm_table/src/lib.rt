@@ -9,6 +9,7 @@ mod changes;
 mod clearing;
 mod effect;
 mod fault;
+mod indexing;
 mod judge;
 mod keyed;
 mod left;

@@ -1,20 +1,18 @@
-ghost use Rattle.std.specs.Prelude.{◌≡◌, ◌||◌, not, OnOk};
-ghost use Rattle.std.specs.List.{filter};
+ghost use Rattle.std.specs.Prelude.{◌≡◌, OnOk};
 ghost use Rattle.std.specs.Option.{option_copied};
 ghost use Rattle.std.specs.FinMap as fin;
-ghost use Rattle.dm_table.specs.Contents.{same_row, share_unique};
+ghost use Rattle.dm_table.specs.Indexing.{all_noted};
 ghost use Rattle.dm_table.specs.Staging.{rows_behind, changed, removed_all};
 
 use crate::changes::Changes;
-use crate::clearing::sharing_keys;
 use crate::keyed::KeyedRows;
 use dm_list::Copied;
-use dm_schema::Schema;
 use dm_value::Row;
 use std::alloc::{AllocError, Global};
 use std::marker::Model;
 
-/// A table's rows beside what operations have changed of them, so that the table stays as it is until all are taken.
+/// A table's rows, or their index, beside what operations have changed of it, so that the table stays as it is until all
+/// are taken.
 #[derive(Drop)]
 pub struct Staged<'a> {
     base: &'a KeyedRows,
@@ -40,19 +38,6 @@ impl<'a> Staged<'a> {
             base,
             changes: Changes::new(alloc),
         }
-    }
-
-    /// The rows without the changes.
-    pub fn base(&self) -> &KeyedRows
-        ensures { result.now ≡ self.now.base }
-    {
-        self.base
-    }
-
-    pub fn changes(&self) -> &Changes
-        ensures { result.now ≡ self.now.changes }
-    {
-        &self.changes
     }
 
     pub fn into_changes(self) -> Changes
@@ -93,23 +78,23 @@ impl<'a> Staged<'a> {
         self.note(key.copy(alloc)?, None)
     }
 
-    /// Removes the row of a key, and those that agree with a row in a unique key.
-    pub fn remove_sharing(
+    /// Notes a place under each of the keys.
+    pub fn insert_all(
         &mut self,
         alloc: Global,
-        schema: &Schema,
-        key: &Row,
-        row: &Row,
+        keys: Vec<Row>,
+        place: &Row,
     ) -> Result<(), AllocError>
-        ensures behind { OnOk result (rows_behind self.new ≡ fin.from_entries (filter (λ e. not (same_row key.now e.0 || share_unique schema.now row.now e.1)) (fin.entries (rows_behind self.old)))) }
+        ensures behind { OnOk result (rows_behind self.new ≡ all_noted place.now keys.items (rows_behind self.old)) }
         ensures base { OnOk result (self.new.base ≡ self.old.base) }
     {
-        let sharing = sharing_keys(alloc, schema, row, self.base, &self.changes)?;
-        self.remove(alloc, key)?;
-        self.remove_all(alloc, &sharing)
+        for key in keys {
+            self.insert(key, place.copy(alloc)?)?;
+        }
+        Ok(())
     }
 
-    fn remove_all(&mut self, alloc: Global, keys: &[Row]) -> Result<(), AllocError>
+    pub fn remove_all(&mut self, alloc: Global, keys: &[Row]) -> Result<(), AllocError>
         ensures behind { OnOk result (rows_behind self.new ≡ removed_all keys.now (rows_behind self.old)) }
         ensures base { OnOk result (self.new.base ≡ self.old.base) }
     {

@@ -13,6 +13,7 @@ ghost use Rattle.dm_table.specs.Judging.{is_memory};
 use crate::altering::altered_rows;
 use crate::applying::all_applied;
 use crate::carrying::carry_over;
+use crate::indexing::index_of;
 use crate::keyed::KeyedRows;
 use crate::{RowOp, TableFault};
 use dm_list::Copied;
@@ -27,11 +28,14 @@ use std::marker::Model;
 pub struct Table {
     schema: Schema,
     rows: KeyedRows,
+    /// Where the rows stand, by their values under the unique keys.
+    index: KeyedRows,
 }
 
 impl Model for Table {
-    ghost use Rattle.dm_table.specs.Contents.{TableContent, AreRows};
+    ghost use Rattle.dm_table.specs.Contents.{TableContent};
     ghost use Rattle.dm_table.specs.Coding.{coded_table};
+    ghost use Rattle.dm_table.specs.Indexing.{AreIndexed};
 
     ghost Value = { TableContent };
 
@@ -39,7 +43,7 @@ impl Model for Table {
 
     ghost view = { λ table. record { layout = table.schema; rows = table.rows } };
 
-    ghost invariant = { λ table. AreRows table.schema table.rows };
+    ghost invariant = { λ table. AreIndexed table.schema table.rows table.index };
 }
 
 impl Table {
@@ -50,6 +54,7 @@ impl Table {
         Table {
             schema,
             rows: KeyedRows::new(alloc),
+            index: KeyedRows::new(alloc),
         }
     }
 
@@ -99,8 +104,8 @@ impl Table {
     }
 
     /// Changes the rows by operations in turn: by all of them, or, where one is refused or memory is wanting, by none.
-    /// The changes are noted beside the rows until all operations are taken, so an operation costs the logarithm of the
-    /// rows; where there are unique keys, one that leaves a row goes over all rows besides, for each of them.
+    /// The changes are noted beside the rows until all operations are taken. An operation costs the logarithm of the rows,
+    /// for the primary key and for each unique key.
     pub fn apply(&mut self, alloc: Global, ops: &[RowOp]) -> Result<(), TableFault>
         ensures applied { IfOk result (λ _. table_applied self.old ops.now ≡ Ok self.new) }
         ensures refused { IfErr result (λ f. MatchBool (is_memory f) ⊤ (table_applied self.old ops.now ≡ Err f)) }
@@ -108,8 +113,8 @@ impl Table {
         ensures elsewhere { (o : RowOp) (key : List Value) → ops.now ≡ o ∷ [] → meets self.old.layout o self.old.rows key ≡ false → OnOk result (fin.get self.new.rows key ≡ fin.get self.old.rows key) }
         ensures in_turn { (more : List RowOp) → OnOk result (table_applied self.old (ops.now ++ more) ≡ table_applied self.new more) }
     {
-        let changes = all_applied(alloc, &self.schema, &self.rows, ops)?;
-        carry_over(alloc, &mut self.rows, changes)?;
+        let changed = all_applied(alloc, &self.schema, &self.rows, &self.index, ops)?;
+        carry_over(alloc, &mut self.rows, &mut self.index, changed)?;
         Ok(())
     }
 
@@ -122,9 +127,11 @@ impl Table {
         ensures follows { OnOk result (Follows self.old self.new) }
     {
         let rows = altered_rows(alloc, &self.schema, &self.rows, schema)?;
+        let index = index_of(alloc, schema, &rows)?;
         let schema = schema.copy(alloc)?;
         self.schema = schema;
         self.rows = rows;
+        self.index = index;
         Ok(())
     }
 }
@@ -134,6 +141,7 @@ impl Copied for Table {
         Ok(Table {
             schema: self.schema.copy(alloc)?,
             rows: self.rows.copy(alloc)?,
+            index: self.index.copy(alloc)?,
         })
     }
 }

@@ -11,9 +11,9 @@ use std::test::Fail;
 
 /// Operations on a table that has the row (1,5), with what comes of them. `I` inserts, `R` replaces, `D` deletes and `E`
 /// erases; `U` updates the row of the key that stands first, and `V` its column `u` alone. `X` inserts with the column
-/// `x` alone, `O` with `u` alone. `N` is NULL, and `t` a text. Behind a `/` the table gets another schema: `d` has a
-/// third column, `INT DEFAULT 5`, and no unique key; `q` has it as a unique key; `p` has another primary key, and in `k`
-/// the column `u` is a text.
+/// `x` alone, `O` with `u` alone. `N` is NULL, and `t` a text. Behind a `/` the table gets another schema: `s` is the one
+/// that it has, `d` has a third column, `INT DEFAULT 5`, and no unique key; `q` has it as a unique key; `p` has another
+/// primary key, and in `k` the column `u` is a text.
 const CASES: &str = "\
 I25 => Duplicate 1: 15
 I16 => Duplicate 0: 15
@@ -33,6 +33,13 @@ X1 => UnknownColumn x: 15
 I2t => Unfit u: 15
 O6 => Unfit id: 15
 I15 X1 => Duplicate 0: 15
+D1 I25 => 25
+V16 I25 => 16 25
+V1N I25 => 1N 25
+I26 V1N V25 V16 => 16 25
+I26 V1N I35 V26 V15 => Duplicate 1: 15
+/s I25 => Duplicate 1: 15
+/s V16 I25 => 16 25
 /d => 155
 I2N /q => Duplicate 1: 15 2N
 /p => PrimaryDiffers: 15
@@ -245,14 +252,29 @@ fn changed(alloc: Global, table: &mut Table, words: &str) -> Result<(), TableFau
     table.apply(alloc, &ops)
 }
 
-/// What comes of the words before a `/`, and then of the schema of the sign behind it.
+/// What comes of the words before a `/`, then of the schema of the sign behind it, and of the words behind that.
 fn push_changes(alloc: Global, out: &mut Vec<u8>, words: &str) -> Result<(), Fail> {
     let mut table = begun(alloc)?;
-    if let Err(fault) = changed(alloc, &mut table, words) {
+    let (before, behind) = match words.split_once("/") {
+        Some(parts) => parts,
+        None => (words, ""),
+    };
+    push_changed(alloc, out, &mut table, before)?;
+    push_altered(alloc, out, &mut table, behind.as_bytes())?;
+    push_changed(alloc, out, &mut table, behind)?;
+    push_rows(alloc, out, &table)?;
+    Ok(())
+}
+
+fn push_changed(
+    alloc: Global,
+    out: &mut Vec<u8>,
+    table: &mut Table,
+    words: &str,
+) -> Result<(), Fail> {
+    if let Err(fault) = changed(alloc, table, words) {
         push_fault(alloc, out, &fault)?;
     }
-    push_altered(alloc, out, &mut table, words.as_bytes())?;
-    push_rows(alloc, out, &table)?;
     Ok(())
 }
 
@@ -262,7 +284,7 @@ fn push_altered(
     table: &mut Table,
     words: &[u8],
 ) -> Result<(), Fail> {
-    let [.., b'/', sign] = words else {
+    let [sign, ..] = words else {
         return Ok(());
     };
     let schema = schema_of(alloc, *sign)?;
