@@ -2,18 +2,18 @@
 # journal.sh [RECORDS..]: how long `dm show` takes for a journal of so many records (1000, 10000 and 100000 without numbers),
 # and how much memory, by GNU time where it is there. Reading such a journal is what each run begins with.
 #
-# The journal is written into a folder that is removed at the end: it makes a table of four columns, and each further record
-# inserts a hundred rows, as a run writes them.
+# The journal is written into a folder that is removed at the end: it makes a table of four columns, without a unique key
+# and then with one, and each further record inserts a hundred rows, as a run writes them.
 set -eu
 
 root=$(dirname -- "$(dirname -- "$(readlink -f -- "${BASH_SOURCE[0]}")")")
 folder=$(mktemp -d)
 trap 'rm -rf -- "$folder"' EXIT
 
-# journal RECORDS: a record is a header with the length of its text, in ten digits, and the text
+# journal RECORDS KEY: a record is a header with the length of its text, in ten digits, and the text
 journal() {
-    awk -v records="$1" 'BEGIN {
-        write("CREATE TABLE `m`.`t` (`city` VARCHAR(40) NULL, `customer` INT NOT NULL, `id` BIGINT NOT NULL, `placed` DATETIME NOT NULL, PRIMARY KEY (`id`));\n")
+    awk -v records="$1" -v key="$2" 'BEGIN {
+        write("CREATE TABLE `m`.`t` (`city` VARCHAR(40) NULL, `customer` INT NOT NULL, `id` BIGINT NOT NULL, `placed` DATETIME NOT NULL, PRIMARY KEY (`id`)" key ");\n")
         for (i = 1; i < records; i++) {
             text = "BEGIN;\n"
             for (n = 0; n < 100; n++) {
@@ -37,7 +37,9 @@ measured() {
 [ $# -gt 0 ] || set -- 1000 10000 100000
 
 for records in "$@"; do
-    journal "$records" >"$folder/dm.journal"
-    bytes=$(wc -c <"$folder/dm.journal")
-    (cd -- "$folder" && measured "$records records, $bytes bytes" "$root/dm" show >/dev/null)
+    for key in '' ', UNIQUE KEY `of_customer` (`customer`,`id`)'; do
+        journal "$records" "$key" >"$folder/dm.journal"
+        bytes=$(wc -c <"$folder/dm.journal")
+        (cd -- "$folder" && measured "$records records, $bytes bytes${key:+, with a unique key}" "$root/dm" show >/dev/null)
+    done
 done
