@@ -1,5 +1,5 @@
 -- What is printed of a task: its numbers, and where each of its shards goes.
-use Rattle.std.specs.Prelude.{ℕ, List, [], ◌∷◌, ◌++◌, length, codes}
+use Rattle.std.specs.Prelude.{ℕ, List, ◌++◌, length, codes}
 use Rattle.std.specs.List.{flat_map}
 use Rattle.std.specs.Fmt.{decimal}
 use Rattle.dm_task.specs.declared.task.Task.{Task}

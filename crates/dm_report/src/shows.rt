@@ -1,4 +1,5 @@
-ghost use Rattle.std.specs.Prelude.{◌≡◌, ◌++◌, codes, IfOk, OnOk};
+ghost use Rattle.std.specs.Prelude.{◌≡◌, ◌++◌, map, codes, IfOk, OnOk};
+ghost use Rattle.std.specs.BTreeMap.{values};
 ghost use Rattle.std.specs.List.{flat_map};
 ghost use Rattle.dm_text.specs.Names.{table_name_text};
 ghost use Rattle.dm_report.specs.Faults.{behind_blank};
@@ -11,6 +12,7 @@ use dm_schema::TableName;
 use dm_table::Table;
 use dm_target::MemoryTarget;
 use dm_text::push_table_name;
+use dm_value::Row;
 use std::alloc::{AllocError, Global};
 use std::collections::BTreeMap;
 
@@ -46,7 +48,19 @@ fn push_named_table(
     ensures { OnOk result (text.new.items ≡ text.old.items ++ table_part (name.now, table.now)) }
 {
     push_title(text, name)?;
-    push_table(alloc, text, table.schema(), table.rows())
+    let rows = in_order(alloc, table.rows())?;
+    push_table(alloc, text, table.schema(), &rows)
+}
+
+/// A table's rows in the order of their keys.
+fn in_order<'a>(alloc: Global, rows: &'a BTreeMap<Row, Row>) -> Result<Vec<&'a Row>, AllocError>
+    ensures { IfOk result (λ listed. map (λ row. row.now) listed.items ≡ values rows.now) }
+{
+    let mut listed = Vec::with_capacity(alloc, rows.len())?;
+    for row in rows.values() {
+        listed.push(row)?;
+    }
+    Ok(listed)
 }
 
 /// Adds the line of a table's name.

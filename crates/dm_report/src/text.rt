@@ -1,5 +1,4 @@
-ghost use Rattle.std.specs.Prelude.{◌≡◌, ◌++◌, length, OnOk};
-ghost use Rattle.std.specs.BTreeMap.{values};
+ghost use Rattle.std.specs.Prelude.{◌≡◌, ◌++◌, length, map, OnOk};
 ghost use Rattle.std.specs.List.{flat_map};
 ghost use Rattle.dm_report.specs.Texts.{column_line, primary_line, unique_line, count_line, head_text, row_line, table_text};
 
@@ -7,17 +6,16 @@ use dm_schema::{Column, Schema, UniqueKey};
 use dm_text::{push_column, push_name, push_name_list, push_tuple};
 use dm_value::{Name, Row, Value};
 use std::alloc::{AllocError, Global};
-use std::collections::BTreeMap;
 
-/// Adds the text of a table. Columns and unique keys stand in the schema's order, and rows in the order of their keys.
-/// Where memory runs out, a part of the text may have been added.
+/// Adds the text of a table. Columns and unique keys stand in the schema's order, and rows as they are handed in, which
+/// is the order of their keys. Where memory runs out, a part of the text may have been added.
 pub fn push_table(
     alloc: Global,
     out: &mut Vec<u8>,
     schema: &Schema,
-    rows: &BTreeMap<Row, Row>,
+    rows: &[&Row],
 ) -> Result<(), AllocError>
-    ensures { OnOk result (out.new.items ≡ out.old.items ++ table_text schema.now.columns schema.now.primary schema.now.uniques (values rows.now) (length (values rows.now))) }
+    ensures { OnOk result (out.new.items ≡ out.old.items ++ table_text schema.now.columns schema.now.primary schema.now.uniques (map (λ row. row.now) rows.now) (length (map (λ row. row.now) rows.now))) }
 {
     let columns = schema.columns();
     let primary = schema.primary().as_slice();
@@ -44,16 +42,16 @@ pub(crate) fn push_head(
     push_count(alloc, out, count)
 }
 
-/// Adds the lines of rows in the order of their keys.
+/// Adds the lines of rows.
 fn push_rows(
     alloc: Global,
     out: &mut Vec<u8>,
     columns: &[Column],
-    rows: &BTreeMap<Row, Row>,
+    rows: &[&Row],
 ) -> Result<(), AllocError>
-    ensures { OnOk result (out.new.items ≡ out.old.items ++ flat_map (row_line columns.now) (values rows.now)) }
+    ensures { OnOk result (out.new.items ≡ out.old.items ++ flat_map (row_line columns.now) (map (λ row. row.now) rows.now)) }
 {
-    for row in rows.values() {
+    for row in rows {
         push_row(alloc, out, columns, row.as_slice())?;
     }
     Ok(())
