@@ -1,7 +1,6 @@
 -- Reading dumps in turn: those so far, and those to come.
 use Rattle.std.proofs.Common.{◌≡◌, true, false, List, [], ◌∷◌, ◌++◌, Result, Ok, Err, MatchBool, refl, sym, ap, subst, append_assoc, append-nil}
 use Rattle.std.specs.Prelude.{⊤, Bool}
-use Rattle.dm_dump.specs.declared.dump.Dump.{Dump}
 use Rattle.dm_dump.specs.declared.fault.DumpFault.{DumpFault}
 use Rattle.dm_dump.specs.Dumps.{IsDump}
 use Rattle.dm_report.specs.declared.status.Status.{Status}
@@ -11,7 +10,7 @@ use Rattle.dm_top.specs.Reading.{Named, named_of}
 use Rattle.dm_top.specs.Rows.{Said}
 use Rattle.dm_top.specs.Load.{bad_dump, with_dump, ReadsDumps}
 use Rattle.dm_top.specs.Top.{is_memory}
-use Rattle.dm_top.specs.Sources.{said_in, said_of, ReadsSource}
+use Rattle.dm_top.specs.Sources.{said_in}
 
 abbrev pub with_said : List Said → Result (List Said) Status → Result (List Said) Status
 with_said front (Ok others) = Ok (front ++ others)

@@ -1,6 +1,6 @@
 -- Laws of what is printed: of dumps that don't clash each row is in the map under its key, and as many rows are printed as
 -- the dumps have.
-use Rattle.std.proofs.Common.{◌≡◌, ℕ, ◌+◌, Bool, true, false, cond, ◌||◌, List, [], ◌∷◌, ◌++◌, length, map, fold, Some, is_some, refl, sym, ap, ◌∙◌, append_assoc, append-nil}
+use Rattle.std.proofs.Common.{◌≡◌, ◌+◌, Bool, true, false, cond, List, [], ◌∷◌, ◌++◌, length, fold, Some, refl, sym, ap, ◌∙◌, append_assoc, append-nil}
 use Rattle.std.specs.FinMap as fin
 use Rattle.std.specs.FinMap.{FinMap, contains_key-keys, get-insert, len-empty, len-entries, len-insert}
 use Rattle.std.specs.List.{list_any}

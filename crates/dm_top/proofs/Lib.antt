@@ -1,5 +1,7 @@
-mod Adding
 mod Gathering
+mod KeyLemmas
 mod Laws
 mod Merging
+mod OrderLemmas
+mod PlaceLemmas
 mod Showing

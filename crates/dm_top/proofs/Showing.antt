@@ -1,11 +1,10 @@
 -- What `show` answers of the bytes that are loaded, by whether these are too many; it is what it answers of all that the
 -- journal has.
-use Rattle.std.proofs.Common.{◌≡◌, ℕ, ◌+◌, ◌≤◌, ◌<◌, Bool, true, false, ◌||◌, List, length, take, Option, Some, None, Result, Ok, Err, nat_lt, refl, sym, ap, subst, ◌∙◌, arith}
+use Rattle.std.proofs.Common.{◌≡◌, ℕ, ◌+◌, ◌≤◌, ◌<◌, Bool, true, false, ◌||◌, List, length, Option, Some, None, Ok, Err, nat_lt, refl, sym, subst, arith}
 use Rattle.std.specs.Prelude.{⊤, IfSome, MatchBool}
 use Rattle.std.proofs.lemmas.Bool.{lt-ltb, le-ltb, ltb-true, ltb-false}
 use Rattle.std.proofs.lemmas.List.{length-take-le, take_all}
 use Rattle.dm_base.specs.Outside.{IsFront, front_of}
-use Rattle.dm_report.specs.declared.status.Status.{Status}
 use Rattle.dm_report.specs.declared.status.Status.TheVariants as status
 use Rattle.dm_report.specs.declared.status.Which.TheVariants as which
 use Rattle.dm_top.specs.Showing.{most_journal, ShowsRecords, Shows}

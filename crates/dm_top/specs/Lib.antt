@@ -1,5 +1,6 @@
 pub mod Load
 pub mod Merge
+pub mod Places
 pub mod Reading
 pub mod Rows
 pub mod Sources

@@ -2,7 +2,6 @@
 use Rattle.std.specs.Prelude.{◌≡◌, ⊤, List, map, Result, Ok, Err, MatchBool}
 use Rattle.std.specs.Global.{Vec}
 use Rattle.dm_schema.specs.Layout.{Layout}
-use Rattle.dm_dump.specs.declared.dump.Dump.{Dump}
 use Rattle.dm_dump.specs.declared.fault.DumpFault.{DumpFault}
 use Rattle.dm_dump.specs.Dumps.{IsDump}
 use Rattle.dm_report.specs.declared.status.Status.{Status}

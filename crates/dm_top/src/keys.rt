@@ -1,88 +1,104 @@
-ghost use Rattle.std.specs.Prelude.{◌≡◌, ◌∷◌, [], Some, None, IfOk, if◌then◌else◌};
+ghost use Rattle.std.specs.Prelude.{◌≡◌, ◌++◌, [], ◌∷◌, map, IfOk, OnOk, if◌then◌else◌};
 ghost use Rattle.std.specs.List.{list_any};
-ghost use Rattle.std.specs.BTreeMap.{values};
+ghost use Rattle.std.specs.Option.{option_map};
 ghost use Rattle.dm_schema.specs.Names.{repeats};
-ghost use Rattle.dm_top.specs.Load.{is_null, unique_values, values_under, same_row};
-ghost use Rattle.dm_top.specs.Merge.{added, noted};
-ghost use Rattle.std.specs.Option.{option_to_list};
+ghost use Rattle.dm_top.specs.Load.{is_null, values_under, same_row};
+ghost use Rattle.dm_top.specs.Merge.{by_primary_key, has_null, without_null};
 
-use dm_schema::{Schema, UniqueKey, values_at};
+use crate::order::in_order;
+use crate::places::{Origin, key_origins};
+use dm_schema::{Schema, UniqueKey};
 use dm_value::{Row, Value};
 use std::alloc::{AllocError, Global};
-use std::collections::BTreeMap;
 
-/// Whether two rows have the same values under some unique key; a NULL among them makes them equal to none.
-pub fn share_unique(
+/// The rows in the order of their primary keys; none where two have one key.
+pub fn by_primary_key<'a>(
     alloc: Global,
     joined: &Schema,
-    rows: &BTreeMap<Row, Row>,
-) -> Result<bool, AllocError>
-    ensures { IfOk result (λ shared. shared ≡ list_any (λ key. repeats same_row (values_under joined.now (values rows.now) key)) joined.now.uniques) }
+    rows: &'a [Row],
+) -> Result<Option<Vec<&'a Row>>, AllocError>
+    ensures { IfOk result (λ sorted. option_map (λ rows. map (λ row. row.now) rows.items) sorted ≡ by_primary_key joined.now rows.now) }
+{
+    let origins = key_origins(alloc, joined.columns(), joined.primary().as_slice())?;
+    let lent = references(alloc, rows)?;
+    let sorted = in_order(&origins, lent)?;
+    Ok(sorted)
+}
+
+fn references<'a>(alloc: Global, rows: &'a [Row]) -> Result<Vec<&'a Row>, AllocError>
+    ensures { IfOk result (λ lent. map (λ row. row.now) lent.items ≡ rows.now) }
+{
+    let mut lent = Vec::with_capacity(alloc, rows.len())?;
+    for row in rows {
+        lent.push(row)?;
+    }
+    Ok(lent)
+}
+
+/// Whether two rows have the same values under some unique key; a NULL among them makes them equal to none.
+pub fn share_unique(alloc: Global, joined: &Schema, rows: &[&Row]) -> Result<bool, AllocError>
+    ensures { IfOk result (λ shared. shared ≡ list_any (λ key. repeats same_row (values_under joined.now (map (λ row. row.now) rows.now) key)) joined.now.uniques) }
 {
     for key in joined.uniques() {
-        if repeat_under(alloc, joined, rows, key)? {
+        if share_key(alloc, joined, rows, key)? {
             return Ok(true);
         }
     }
     Ok(false)
-}
-
-fn has_null(values: &[Value]) -> bool
-    ensures { result ≡ list_any is_null values.now }
-{
-    values.iter().any(|value| matches!(value, Value::Null))
-}
-
-/// A row's values under a key; none where a NULL is among them.
-fn unique_values(
-    alloc: Global,
-    joined: &Schema,
-    key: &UniqueKey,
-    row: &Row,
-) -> Result<Option<Row>, AllocError>
-    ensures { IfOk result (λ values. values ≡ unique_values joined.now key.now row.now) }
-{
-    let columns = joined.columns();
-    let values = values_at(alloc, columns, row.as_slice(), key.columns.as_slice())?;
-    if has_null(&values) {
-        Ok(None)
-    } else {
-        Ok(Some(Row::new(values)))
-    }
 }
 
 /// Whether two rows have the same values under a key.
-fn repeat_under(
+fn share_key(
     alloc: Global,
     joined: &Schema,
-    rows: &BTreeMap<Row, Row>,
+    rows: &[&Row],
     key: &UniqueKey,
 ) -> Result<bool, AllocError>
-    ensures { IfOk result (λ repeated. repeated ≡ repeats same_row (values_under joined.now (values rows.now) key.now)) }
+    ensures { IfOk result (λ shared. shared ≡ repeats same_row (values_under joined.now (map (λ row. row.now) rows.now) key.now)) }
 {
-    let mut seen = BTreeMap::new(alloc);
-    for row in rows.values() {
-        let values = unique_values(alloc, joined, key, row)?;
-        if !see(&mut seen, values)? {
-            return Ok(true);
-        }
-    }
-    Ok(false)
+    let origins = key_origins(alloc, joined.columns(), key.columns.as_slice())?;
+    let whole = without_null(alloc, &origins, rows)?;
+    let sorted = in_order(&origins, whole)?;
+    Ok(sorted.is_none())
 }
 
-/// Notes values, where there are any; whether they weren't there yet.
-fn see(seen: &mut BTreeMap<Row, ()>, values: Option<Row>) -> Result<bool, AllocError>
-    ensures { IfOk result (λ new. added seen.old.entries (noted (option_to_list values)) ≡ (if new then Some seen.new.entries else None)) }
+/// The rows that have no NULL among their values at some places.
+fn without_null<'a>(
+    alloc: Global,
+    origins: &[Origin],
+    rows: &[&'a Row],
+) -> Result<Vec<&'a Row>, AllocError>
+    ensures { IfOk result (λ whole. map (λ row. row.now) whole.items ≡ without_null origins.now (map (λ row. row.now) rows.now)) }
 {
-    match values {
-        Some(values) => insert(seen, values),
-        None => Ok(true),
+    let mut whole = Vec::new(alloc);
+    for row in rows {
+        push_whole(origins, &mut whole, *row)?;
     }
+    Ok(whole)
 }
 
-fn insert(seen: &mut BTreeMap<Row, ()>, values: Row) -> Result<bool, AllocError>
-    ensures { IfOk result (λ new. added seen.old.entries (noted (values ∷ [])) ≡ (if new then Some seen.new.entries else None)) }
+/// Adds a row that has no NULL among its values at some places.
+fn push_whole<'a>(
+    origins: &[Origin],
+    whole: &mut Vec<&'a Row>,
+    row: &'a Row,
+) -> Result<(), AllocError>
+    ensures { OnOk result (map (λ row. row.now) whole.new.items ≡ map (λ row. row.now) whole.old.items ++ (if has_null origins.now row.now then [] else row.now ∷ [])) }
 {
-    let before = seen.insert(values, ())?;
-    Ok(before.is_none())
+    if !has_null(origins, row.as_slice()) {
+        whole.push(row)?;
+    }
+    Ok(())
+}
+
+fn has_null(origins: &[Origin], row: &[Value]) -> bool
+    ensures { result ≡ has_null origins.now row.now }
+{
+    origins.iter().any(|origin| is_null(origin.value(row)))
+}
+
+fn is_null(value: &Value) -> bool
+    ensures { result ≡ is_null value.now }
+{
+    matches!(value, Value::Null)
 }

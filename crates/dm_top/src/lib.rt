@@ -8,6 +8,8 @@ mod keys;
 mod limits;
 mod load;
 mod merge;
+mod order;
+mod places;
 mod plain;
 mod rows;
 mod show;

@@ -1,16 +1,14 @@
-ghost use Rattle.std.specs.Prelude.{◌≡◌, [], length, Ok, option_map, IfOk, IfErr, IsTrue};
-ghost use Rattle.std.specs.BTreeMap.{values};
+ghost use Rattle.std.specs.Prelude.{◌≡◌, length, map, Ok, IfOk, IfErr, IsTrue};
 ghost use Rattle.dm_list.specs.Answer.{Answers};
 ghost use Rattle.dm_report.specs.Texts.{table_text};
-ghost use Rattle.dm_top.specs.Rows.{all_entries};
 ghost use Rattle.dm_top.specs.Load.{load_table, merged_over, merged_from, merged_of};
-ghost use Rattle.dm_top.specs.Merge.{added};
+ghost use Rattle.dm_top.specs.Merge.{all_rows};
 ghost use Rattle.dm_top.specs.Sources.{said_of};
 ghost use Rattle.dm_top.specs.Top.{is_memory, is_own};
 
-use crate::keys::share_unique;
+use crate::keys::{by_primary_key, share_unique};
 use crate::limits::{MOST_ITEMS, MOST_VALUES};
-use crate::rows::add_rows;
+use crate::rows::push_rows;
 use crate::sources::{Source, exceed_items, exceed_values, schemas_of};
 use dm_join::{NoJoin, join};
 use dm_list::Bytes;
@@ -18,23 +16,16 @@ use dm_report::{Status, Which, push_table};
 use dm_schema::{Schema, TableName};
 use dm_value::{Name, Row};
 use std::alloc::{AllocError, Global};
-use std::collections::BTreeMap;
 
-/// The rows of all sources, as the join has them, under their primary keys; none where two have one key.
-fn rows_of(
-    alloc: Global,
-    joined: &Schema,
-    sources: &[Source],
-) -> Result<Option<BTreeMap<Row, Row>>, AllocError>
-    ensures { IfOk result (λ rows. option_map (λ m. m.entries) rows ≡ added [] (all_entries joined.now (said_of sources.now))) }
+/// The rows of all sources, as the join has them, one source after another.
+fn rows_of(alloc: Global, joined: &Schema, sources: &[Source]) -> Result<Vec<Row>, AllocError>
+    ensures { IfOk result (λ rows. rows.items ≡ all_rows joined.now (said_of sources.now)) }
 {
-    let mut rows = BTreeMap::new(alloc);
+    let mut rows = Vec::new(alloc);
     for source in sources {
-        if !add_rows(alloc, joined, &mut rows, source)? {
-            return Ok(None);
-        }
+        push_rows(alloc, joined, &mut rows, source)?;
     }
-    Ok(Some(rows))
+    Ok(rows)
 }
 
 /// What `load`'s table is called in a fault.
@@ -48,8 +39,8 @@ fn load_table(alloc: Global) -> Result<TableName, AllocError>
 }
 
 /// The text of a table.
-fn text_of(alloc: Global, schema: &Schema, rows: &BTreeMap<Row, Row>) -> Result<Bytes, AllocError>
-    ensures { IfOk result (λ text. text ≡ table_text schema.now.columns schema.now.primary schema.now.uniques (values rows.now) (length (values rows.now))) }
+fn text_of(alloc: Global, schema: &Schema, rows: &[&Row]) -> Result<Bytes, AllocError>
+    ensures { IfOk result (λ text. text ≡ table_text schema.now.columns schema.now.primary schema.now.uniques (map (λ row. row.now) rows.now) (length (map (λ row. row.now) rows.now))) }
 {
     let mut text = Vec::new(alloc);
     push_table(alloc, &mut text, schema, rows)?;
@@ -61,13 +52,14 @@ fn merged_over(alloc: Global, joined: &Schema, sources: &[Source]) -> Result<Byt
     ensures merged { Answers is_memory result (merged_over (Ok joined.now) (said_of sources.now)) }
     ensures own { IfErr result (λ s. IsTrue (is_own s)) }
 {
-    let Some(rows) = rows_of(alloc, joined, sources)? else {
+    let rows = rows_of(alloc, joined, sources)?;
+    let Some(sorted) = by_primary_key(alloc, joined, &rows)? else {
         return Err(Status::Unlawful);
     };
-    if share_unique(alloc, joined, &rows)? {
+    if share_unique(alloc, joined, &sorted)? {
         return Err(Status::Unlawful);
     }
-    Ok(text_of(alloc, joined, &rows)?)
+    Ok(text_of(alloc, joined, &sorted)?)
 }
 
 /// The text of dumps that are merged, or how it ends: too many rows, too many values, schemas without a join, rows

@@ -1,19 +1,16 @@
-ghost use Rattle.std.specs.Prelude.{◌≡◌, [], ◌∷◌, map, unwrap_or, Some, None, IfOk, if◌then◌else◌};
-ghost use Rattle.std.specs.Option.{option_copied};
-ghost use Rattle.dm_value.specs.declared.value.Value.TheVariants as value;
-ghost use Rattle.dm_schema.specs.Fill.{fill};
-ghost use Rattle.dm_schema.specs.Rows.{cell};
-ghost use Rattle.dm_top.specs.Rows.{Orders, orders_at, row_under, widened_cell, widened, entry_of, entries_of};
+ghost use Rattle.std.specs.Prelude.{◌≡◌, ◌++◌, map, IfOk, OnOk};
+ghost use Rattle.dm_top.specs.Rows.{Orders, orders_at, row_under};
 ghost use Rattle.dm_top.specs.Sources.{said_in};
-ghost use Rattle.dm_top.specs.Merge.{added, orders_seen};
+ghost use Rattle.dm_top.specs.Places.{values_from};
+ghost use Rattle.dm_top.specs.Merge.{orders_seen, wide_rows};
 
+use crate::places::{Origin, column_origins};
 use crate::sources::Source;
 use dm_dump::{InsertOrder, row_at};
 use dm_list::Copied;
-use dm_schema::{Column, Schema, fill, key_of};
-use dm_value::{Name, Names, Row, Value};
+use dm_schema::Schema;
+use dm_value::{Names, Row, Value};
 use std::alloc::{AllocError, Global};
-use std::collections::BTreeMap;
 
 /// Orders of columns: the one in force, and those still to come, each from its first row on.
 #[derive(Clone, Copy)]
@@ -37,125 +34,55 @@ impl<'a> Orders<'a> {
     }
 }
 
-/// The value of a row in the column of a name.
-fn cell<'a>(columns: &[Column], row: &'a [Value], name: &Name) -> Option<&'a Value>
-    ensures { option_copied result ≡ cell columns.now row.now name.now }
-{
-    let [column, columns @ ..] = columns else {
-        return None;
-    };
-    let [value, row @ ..] = row else {
-        return None;
-    };
-    if column.name == *name {
-        Some(value)
-    } else {
-        cell(columns, row, name)
-    }
-}
-
-/// The value of a row in a column of the join; where its own columns lack it, the column's fill.
-fn widened_cell(
-    alloc: Global,
-    columns: &[Column],
-    row: &[Value],
-    column: &Column,
-) -> Result<Value, AllocError>
-    ensures { IfOk result (λ value. value ≡ widened_cell columns.now row.now column.now) }
-{
-    match cell(columns, row, &column.name) {
-        Some(value) => value.copy(alloc),
-        None => filled(alloc, column),
-    }
-}
-
-fn filled(alloc: Global, column: &Column) -> Result<Value, AllocError>
-    ensures { IfOk result (λ found. found ≡ unwrap_or (fill column.now) value.Null) }
-{
-    match fill(alloc, column)? {
-        Some(value) => Ok(value),
-        None => Ok(Value::Null),
-    }
-}
-
 /// A row with the values of the join's columns.
-fn widened(
-    alloc: Global,
-    joined: &[Column],
-    columns: &[Column],
-    row: &[Value],
-) -> Result<Row, AllocError>
-    ensures { IfOk result (λ wide. wide ≡ widened joined.now columns.now row.now) }
+fn widened(alloc: Global, origins: &[Origin], row: &[Value]) -> Result<Row, AllocError>
+    ensures { IfOk result (λ wide. wide ≡ values_from origins.now row.now) }
 {
-    let mut values = Vec::with_capacity(alloc, joined.len())?;
-    for column in joined {
-        values.push(widened_cell(alloc, columns, row, column)?)?;
+    let mut values = Vec::with_capacity(alloc, origins.len())?;
+    for origin in origins {
+        values.push(origin.value(row).copy(alloc)?)?;
     }
     Ok(Row::new(values))
 }
 
-/// Puts a row, as the join has it, under its primary key; whether no row has that key yet.
-fn add_row(
+/// Adds the row that stands at a place, as the join has it; none where the dump says none there.
+fn push_row_at(
     alloc: Global,
-    joined: &Schema,
-    rows: &mut BTreeMap<Row, Row>,
-    columns: &[Column],
-    row: &Row,
-) -> Result<bool, AllocError>
-    ensures { IfOk result (λ new. added rows.old.entries (entry_of joined.now columns.now row.now ∷ []) ≡ (if new then Some rows.new.entries else None)) }
-{
-    let row = widened(alloc, joined.columns(), columns, row.as_slice())?;
-    let key = key_of(alloc, joined, &row)?;
-    insert_row(rows, key, row)
-}
-
-fn insert_row(rows: &mut BTreeMap<Row, Row>, key: Row, row: Row) -> Result<bool, AllocError>
-    ensures { IfOk result (λ new. added rows.old.entries ((key, row) ∷ []) ≡ (if new then Some rows.new.entries else None)) }
-{
-    let before = rows.insert(key, row)?;
-    Ok(before.is_none())
-}
-
-/// Puts the row that stands at a place under its key; whether no row has that key yet.
-fn add_row_at(
-    alloc: Global,
-    joined: &Schema,
-    rows: &mut BTreeMap<Row, Row>,
+    origins: &[Origin],
+    rows: &mut Vec<Row>,
     source: &Source,
     orders: Orders,
     at: u32,
-) -> Result<bool, AllocError>
-    ensures { IfOk result (λ new. added rows.old.entries (map (entry_of joined.now source.now.dump.schema.columns) (row_under source.now.file.bytes.items source.now.dump.schema (orders_seen orders.entry) at))
-        ≡ (if new then Some rows.new.entries else None)) }
+) -> Result<(), AllocError>
+    ensures { OnOk result (rows.new.items ≡ rows.old.items ++ map (values_from origins.now) (row_under source.now.file.bytes.items source.now.dump.schema (orders_seen orders.entry) at)) }
 {
     let Some(order) = orders.now else {
-        return Ok(true);
+        return Ok(());
     };
-    let schema = &source.dump.schema;
-    match row_at(alloc, &source.file.bytes, at, order, schema)? {
-        Some(row) => add_row(alloc, joined, rows, schema.columns(), &row),
-        None => Ok(true),
+    let row = row_at(alloc, &source.file.bytes, at, order, &source.dump.schema)?;
+    if let Some(row) = row {
+        rows.push(widened(alloc, origins, row.as_slice())?)?;
     }
+    Ok(())
 }
 
-/// Puts the rows of a dump, as the join has them, under their primary keys; whether no two have one.
-pub fn add_rows(
+/// Adds the rows of a dump, as the join has them.
+pub fn push_rows(
     alloc: Global,
     joined: &Schema,
-    rows: &mut BTreeMap<Row, Row>,
+    rows: &mut Vec<Row>,
     source: &Source,
-) -> Result<bool, AllocError>
-    ensures { IfOk result (λ all. added rows.old.entries (entries_of joined.now (said_in source.now)) ≡ (if all then Some rows.new.entries else None)) }
+) -> Result<(), AllocError>
+    ensures { OnOk result (rows.new.items ≡ rows.old.items ++ wide_rows joined.now (said_in source.now)) }
 {
+    let origins = column_origins(alloc, joined.columns(), source.dump.schema.columns())?;
     let mut orders = Orders {
         now: None,
         coming: source.dump.inserts.orders.as_slice(),
     };
     for at in source.dump.inserts.places.as_slice() {
         orders = orders.at(*at);
-        if !add_row_at(alloc, joined, rows, source, orders, *at)? {
-            return Ok(false);
-        }
+        push_row_at(alloc, &origins, rows, source, orders, *at)?;
     }
-    Ok(true)
+    Ok(())
 }

@@ -1,5 +1,4 @@
-use Rattle.std.proofs.Common.{◌≡◌, drop}
-use Rattle.std.specs.BTreeMap.{values}
+use Rattle.std.proofs.Common.{◌≡◌, drop, map}
 use Rattle.std.specs.List.{list_any}
 use Rattle.dm_schema.specs.Names.{repeats}
 use Rattle.dm_top.specs.Load.{same_row, values_under}
@@ -7,4 +6,4 @@ use Rattle.dm_top.proofs.keys.share_unique.Given as goal
 
 abbrev pub invariant-loop-key : goal.invariant-loop-key
 invariant-loop-key l =
-    list_any (λ key. repeats same_row (values_under l.joined (values l.rows) key)) (drop l.key-index l.key-items) ≡ list_any (λ key. repeats same_row (values_under l.joined (values l.rows) key)) l.joined.uniques
+    list_any (λ key. repeats same_row (values_under l.joined (map (λ row. row.now) l.rows) key)) (drop l.key-index l.key-items) ≡ list_any (λ key. repeats same_row (values_under l.joined (map (λ row. row.now) l.rows) key)) l.joined.uniques

@@ -1,6 +1,6 @@
 use Rattle.std.proofs.Common.{◌≡◌, take, map}
-use Rattle.dm_top.specs.Rows.{widened_cell}
+use Rattle.dm_top.specs.Places.{value_from}
 use Rattle.dm_top.proofs.rows.widened.Given as goal
 
-abbrev pub invariant-loop-column : goal.invariant-loop-column
-invariant-loop-column l = l.values.items ≡ map (widened_cell l.columns l.row) (take l.column-index l.joined)
+abbrev pub invariant-loop-origin : goal.invariant-loop-origin
+invariant-loop-origin l = l.values.items ≡ map (value_from l.row) (take l.origin-index l.origins)
