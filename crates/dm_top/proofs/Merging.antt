@@ -14,7 +14,7 @@ use Rattle.std.specs.List.{list_any}
 use Rattle.dm_value.specs.Order.{row_cmp}
 use Rattle.dm_value.proofs.OrderLemmas.{row_total}
 use Rattle.dm_schema.specs.Names.{repeats}
-use Rattle.dm_top.specs.Rows.{Row}
+use Rattle.dm_top.specs.Rows.{Row, Entry}
 use Rattle.dm_top.specs.Load.{same_row, keys_of, map_of}
 
 is_some_either : {X : Type 0} (b c : Bool) (x : X) (o : Option X) → (is_some (cond b (Some x) o) || c) ≡ (is_some o || (b || c))
@@ -28,7 +28,7 @@ has_inserted o q [] m = sym (or-false _)
 has_inserted {R = R} o q (e ∷ es) m =
     has_inserted o q es (fin.insert m e.0 e.1) ∙ ap (λ value. is_some value || list_any (eq_by_cmp R q) (map (λ e. e.0) es)) (get-insert o m e.0 e.1 q) ∙ is_some_either (eq_by_cmp R q e.0) _ e.1 (fin.get m q)
 
-pub key_is_there : {V : Type 0} (q : Row) (es : List (Row × V)) → list_any (same_row q) (keys_of (fin.entries (map_of es))) ≡ list_any (same_row q) (keys_of es)
+pub key_is_there : (q : Row) (es : List Entry) → list_any (same_row q) (keys_of (fin.entries (map_of es))) ≡ list_any (same_row q) (keys_of es)
 key_is_there q es =
     sym (contains_key-keys (map_of es) q) ∙ has_inserted row_total q es fin.empty ∙ ap (λ value. is_some value || list_any (same_row q) (keys_of es)) (get-empty row_cmp q)
 
@@ -54,10 +54,10 @@ repeats_before same (x ∷ xs) ys h =
       | inr later ↦ or_right _ _ (repeats_before same xs ys later)
     ]
 
-keys_push : {V : Type 0} (es : List (Row × V)) (e : Row × V) → repeats same_row (keys_of (es ++ e ∷ [])) ≡ (list_any (same_row e.0) (keys_of es) || repeats same_row (keys_of es))
+keys_push : (es : List Entry) (e : Entry) → repeats same_row (keys_of (es ++ e ∷ [])) ≡ (list_any (same_row e.0) (keys_of es) || repeats same_row (keys_of es))
 keys_push es e = ap (repeats same_row) (map-append (λ e. e.0) es (e ∷ [])) ∙ repeats_push same_row ((eq_by_cmp_equiv row_total).symm) (keys_of es) e.0
 
-pub repeats_there : {V : Type 0} (before : List (Row × V)) (e : Row × V) (more : List (Row × V)) → list_any (same_row e.0) (keys_of before) ≡ true → repeats same_row (keys_of (before ++ e ∷ more)) ≡ true
+pub repeats_there : (before : List Entry) (e : Entry) (more : List Entry) → list_any (same_row e.0) (keys_of before) ≡ true → repeats same_row (keys_of (before ++ e ∷ more)) ≡ true
 repeats_there before e more known =
     ap (λ es. repeats same_row (keys_of es)) (sym (append_assoc before (e ∷ []) more)) ∙ ap (repeats same_row) (map-append (λ e. e.0) (before ++ e ∷ []) more)
     ∙ repeats_before same_row (keys_of (before ++ e ∷ [])) (keys_of more) (keys_push before e ∙ or_left _ _ known)

@@ -30,9 +30,6 @@ one_later : {A : Type 0} (x : A) (xs : List A) (o : Option ℕ) → option_and_t
 one_later x xs None = refl
 one_later x xs (Some k) = refl
 
-named : Text → Column → Bool
-named name c = same_name c.name name
-
 -- the cell of a name stands where the name's column does
 cell_from : (columns : List Column) (row : Row) (name : Text) → cell columns row name ≡ option_and_then (slice_get row) (position_from (λ c. same_name c.name name) 0 columns)
 cell_from [] row name = refl
@@ -45,7 +42,7 @@ cell_from (c ∷ columns) (v ∷ row) name =
       by true e = refl
       by false e = e
 
-pub cell_at : (columns : List Column) (row : Row) (name : Text) → cell columns row name ≡ option_and_then (slice_get row) (position (λ c. same_name c.name name) columns)
+cell_at : (columns : List Column) (row : Row) (name : Text) → cell columns row name ≡ option_and_then (slice_get row) (position (λ c. same_name c.name name) columns)
 cell_at columns row name = cell_from columns row name ∙ ap (option_and_then (slice_get row)) (sym (position_from-zero (λ c. same_name c.name name) columns))
 
 pub key_values : (columns : List Column) (names : List Text) (row : Row) → values_from (key_origins columns names) row ≡ values_at columns row names

@@ -75,7 +75,7 @@ values_of (said ∷ rest) = length said.dump.inserts.places * length said.dump.s
 abbrev pub same_row : Row → Row → Bool
 same_row = eq_by_cmp row_cmp
 
-abbrev pub keys_of : {V : Type 0} → List (Row × V) → List Row
+abbrev pub keys_of : List Entry → List Row
 keys_of entries = map (λ e. e.0) entries
 
 abbrev pub is_null : Value → Bool
@@ -92,7 +92,7 @@ values_under joined rows key = filter_map (unique_values joined key) rows
 -- The table.
 
 -- the map from primary key to row
-abbrev pub map_of : {V : Type 0} → List (Row × V) → FinMap row_cmp V
+abbrev pub map_of : List Entry → FinMap row_cmp Row
 map_of entries = fold (λ m e. fin.insert m e.0 e.1) fin.empty entries
 
 -- the rows by primary key
